@@ -1,0 +1,13 @@
+use borrow.Author.Needs.{needs}
+use Rattle.blocks.proofs.is_pointed.Statement.{statement}
+use Rattle.blocks.proofs.is_pointed.Tie as tie
+
+returns : tie.Need-returns
+returns c = rw (c .bit-15 .ensures)
+
+pub is-pointed-spec : {M : Type 1} → statement M
+is-pointed-spec =
+    tie.close
+    (tie.spec
+    (λ c κs. search needs)
+    returns)

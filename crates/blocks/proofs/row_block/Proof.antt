@@ -1,0 +1,15 @@
+use Rattle.blocks.specs.RowBlock.{rowBlockAt}
+use borrow.Author.Needs.{needs}
+use Rattle.blocks.proofs.row_block.Statement.{statement}
+use Rattle.blocks.proofs.row_block.Tie as tie
+
+returns : tie.Need-returns
+unfolding rowBlockAt
+returns c = c .block-at .ensures
+
+pub row-block-spec : {M : Type 1} → statement M
+row-block-spec =
+    tie.close
+    (tie.spec
+    (λ c κs. search needs)
+    returns)

@@ -1,0 +1,47 @@
+use mathlib.Core.Path.{_≡_, sym}
+use mathlib.Core.List.{[]}
+use lib.Seq.{length-take-le}
+use native.Mathlib.Omega.{arith}
+use Rattle.blocks.proofs.BlockLaws.{segments-whole, segments-missing}
+use borrow.Author.Needs.{needs}
+use Rattle.blocks.proofs.segments_from.Statement.{statement}
+use Rattle.blocks.proofs.segments_from.Tie as tie
+
+slice-aggregate-read-words : tie.Need-slice-aggregate-read-words
+slice-aggregate-read-words c = sym (length-take-le _ _ (omega arith))
+
+returns : tie.Need-returns
+returns c =
+    let r = c .before .before .before .before .before .before .before .read-words in
+    segments-whole _ _ _ (c .before .before .before .before .before .before .before .before .before .before .before .before .before .args .head .now) _ _ _ _ (c .before .before .before .before .before .before .before .before .before .segment-count .ensures) (length-take-le _ _ (omega arith)) _ _ _ (r .ensures)
+    _ (c .pointer .ensures) (c .before .before .before .enum-told .given .1) (r .kept .1 .1 .1 .0)
+
+returns-2 : tie.Need-returns-2
+returns-2 c =
+    let r = c .before .before .before .before .before .read-words in
+    segments-missing _ _ _ (c .before .before .before .before .before .before .before .before .before .before .before .args .head .now) (c .before .before .before .before .before .before .before .before .before .before .before .args .redefinition) _ _ _ (c .before .before .before .before .before .before .before .segment-count .ensures) (length-take-le _ _ (omega arith)) _ _ [] (r .ensures)
+    _ (c .before .at .given .1)
+
+pub segments-from-spec : {M : Type 1} → statement M
+segments-from-spec =
+    tie.close
+    (tie.spec
+    (λ c. search needs)
+    (λ c κs. search needs)
+    (λ c. search needs)
+    (λ c. search needs)
+    (λ c. search needs)
+    slice-aggregate-read-words
+    (λ c κs. search needs)
+    (λ c. search needs)
+    (λ c. search needs)
+    (λ c. search needs)
+    (λ c κs. search needs)
+    (λ c. search needs)
+    (λ c. search needs)
+    (λ c. search needs)
+    (λ c. search needs)
+    (λ c. search needs)
+    returns
+    (λ c. search needs)
+    returns-2)

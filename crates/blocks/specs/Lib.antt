@@ -1,0 +1,3 @@
+pub mod Main
+pub mod RowBlock
+pub mod Window

@@ -1,0 +1,251 @@
+-- Document 01, "Marked examples": P1 to P12 and sheet S, with "Misreadings to shut out", as one computed statement.
+use Prim.Native.Nat.{ℕ, _+_, _*_, _/_, _%_, _^_}
+use mathlib.Core.Path.{_≡_, refl}
+use mathlib.Core.Bool.{Bool, true, false, _&&_, not}
+use mathlib.Core.List.{List, [], _∷_, _++_}
+use lib.ListN.{replicate, take, drop}
+use lib.Dec.{eqb}
+use lib.Count.{ones, onesIn}
+use Rattle.memory.specs.Reading.{_>>=_, each, Outcome, given, refused, runFrom, run}
+use Rattle.memory.specs.Address.{pointer, nextWord, ahead, words}
+use Rattle.settings.specs.declared.Interlace.{Interlace}
+use Rattle.settings.specs.declared.Interlace.the-variants.{Progressive, RepeatField, Video}
+use Rattle.settings.specs.declared.Settings.{Settings}
+use Rattle.settings.specs.declared.Timing.{Timing}
+use Rattle.settings.specs.Good.{inRange, inOrder, fitsFields, fitsMode, good}
+use Rattle.settings.specs.Timing.{halfLines, timing, linesIn, linesForRows, halved, invokingCodes}
+use Rattle.blocks.specs.declared.WindowInHand.{WindowInHand}
+use Rattle.blocks.specs.declared.WindowInHand.the-variants.{Absent, Present}
+use Rattle.blocks.specs.Main.{mainBlock, mainBlockAt}
+use Rattle.blocks.specs.RowBlock.{segmentOf, segmentsOf, restOfBlock, blockAt, rowBlockAt, windowRowAt, formatOf, redefined}
+use Rattle.blocks.specs.Window as W
+use Rattle.row.specs.declared.Fields.{Fields}
+use Rattle.row.specs.declared.State.{State}
+use Rattle.row.specs.declared.StartAnswer.{StartAnswer}
+use Rattle.row.specs.declared.StartAnswer.the-variants as Start
+use Rattle.row.specs.declared.RowAnswer.{RowAnswer}
+use Rattle.row.specs.declared.RowAnswer.the-variants as Answer
+use Rattle.row.specs.State as S
+use Rattle.row.specs.Attribute.{invokes, sourceNumber, cell}
+use Rattle.row.specs.Layout.{width, total, fits, allFit, boundary, edgesFit, covered, onSide, segmentsOn}
+use Rattle.row.specs.Plan.{windowRow, overlaid, nextFields, plan}
+use Rattle.row.specs.Cells.{taking, put, character, examine, codes, filled, fillByWord, fillTo, segment, background, cells}
+use Rattle.row.specs.Row.{Called, row, withCursor, rowCall}
+use Rattle.row.specs.Start.{firstFields, startFrom, startCall}
+use Rattle.effect.specs.declared.Part.{Part}
+use Rattle.effect.specs.declared.Part.the-variants.{Keep, Set, Refuse}
+use Rattle.effect.specs.Effect.{outcomeFor, effectCall}
+
+-- ---- tests ----
+same : List ℕ → List ℕ → Bool
+same [] [] = true
+same [] (y ∷ ys) = false
+same (x ∷ xs) [] = false
+same (x ∷ xs) (y ∷ ys) = eqb x y && same xs ys
+
+pub every : List Bool → Bool
+every [] = true
+every (b ∷ bs) = b && every bs
+
+-- an accepted row's number, lines, row attributes, CURS, CURE, words and cells; a refused row's number, row and address
+shownAs : RowAnswer → List ℕ → List ℕ
+shownAs (Answer.Accepted r) cs = r .number ∷ r .lines ∷ r .format .attributes ∷ r .format .curs ∷ r .format .cure ∷ r .words ∷ cs
+shownAs (Answer.Refused r) cs = r .number ∷ r .row ∷ r .address ∷ []
+
+shown : Called → List ℕ
+shown c = shownAs (c .answer) (c .buffer)
+
+-- the cells from a column on, as many as said
+cellsFrom : ℕ → ℕ → Called → List ℕ
+cellsFrom column n c = take n (drop column (c .buffer))
+
+-- keep: nothing; set: the word; refuse: number, row and address
+partShown : Part → List ℕ
+partShown Keep = []
+partShown (Set w) = w ∷ []
+partShown (Refuse r) = r .number ∷ r .row ∷ r .address ∷ []
+
+times : Timing → List ℕ
+times t = t .sync ∷ t .back ∷ t .active ∷ t .front ∷ t .field ∷ []
+
+-- ---- settings, states and memory ----
+settings : Bool → Bool → ℕ → Settings
+settings hidden cursor flag = record {
+  linear = true;
+  hidden = hidden;
+  interlace = Progressive;
+  cursor = cursor;
+  flag = flag;
+  top = record { first = 0; second = 0x10 };
+  tow = record { first = 0; second = 0 };
+  vsw = 0;
+  vsd = 0;
+  val = 16;
+  vtot = 20;
+  hsync = 0;
+  hsd = 1;
+  htc = 7;
+  htd = 5;
+}
+
+-- sheet S: switches 11h, flag 8080
+sheetS : Settings
+sheetS = settings false true 0x8080
+
+memoryS : List ℕ
+memoryS =
+    replicate 8 0 ++ (0 ∷ 0x20 ∷ 0x100 ∷ 0x20 ∷ 0 ∷ 0 ∷ 7 ∷ 0 ∷ [])
+    ++ (0 ∷ 0x30 ∷ 1 ∷ 0 ∷ 0x60 ∷ 0 ∷ 0x70 ∷ 0x403 ∷ []) ++ replicate 24 0
+    ++ (0x4180 ∷ 0x4281 ∷ []) ++ replicate 6 0 ++ (0x2000 ∷ 0x8002 ∷ []) ++ replicate 6 0
+
+-- a state with 8 lines left, no fill flag, and the next row block at 20
+at : ℕ → WindowInHand → State
+at row w = S.stateOf 0 (record {
+  row = row;
+  left = 8;
+  cursor = record { x = 0; y = 0 };
+  fill = record { code = 0x20; flag = false };
+  format = record { lines = 8; attributes = 0; curs = 0; cure = 31 };
+  next = 0x20;
+  window = w;
+})
+
+stateOfStart : StartAnswer → State
+stateOfStart (Start.Accepted r) = r .state
+stateOfStart (Start.Refused r) = at 0 Absent
+
+wordsOfStart : StartAnswer → ℕ
+wordsOfStart (Start.Accepted r) = r .words
+wordsOfStart (Start.Refused r) = 0
+
+stateAfter : RowAnswer → State
+stateAfter (Answer.Accepted r) = r .next
+stateAfter (Answer.Refused r) = at 0 Absent
+
+buffer : List ℕ
+buffer = replicate 132 0
+
+-- the first row of a frame
+firstRow : Settings → List ℕ → Called
+firstRow σ m = rowCall σ m (stateOfStart (startCall σ m)) buffer
+
+-- the parts of the first row's effect, ignore clear and ignore set
+clearPart : Settings → List ℕ → List ℕ
+clearPart σ m = partShown (effectCall σ m (stateOfStart (startCall σ m) .fields) .effect .clear)
+
+setPart : Settings → List ℕ → List ℕ
+setPart σ m = partShown (effectCall σ m (stateOfStart (startCall σ m) .fields) .effect .set)
+
+row0 : Called
+row0 = firstRow sheetS memoryS
+
+row1 : Called
+row1 = rowCall sheetS memoryS (stateAfter (row0 .answer)) buffer
+
+padded : ℕ → List ℕ → List ℕ
+padded n l = take n (l ++ replicate n 0)
+
+-- memory with a main block at 10 whose M3 is `fill`, a row block at 20, codes at 60 and a list of attributes at E4
+page : ℕ → List ℕ → List ℕ → List ℕ → List ℕ
+page fill block codes list =
+    replicate 8 0 ++ padded 8 (0 ∷ 0x20 ∷ 0 ∷ fill ∷ 0 ∷ 0 ∷ 7 ∷ []) ++ padded 32 block ++ padded 66 codes ++ padded 8 list
+
+-- a row block of one segment, with the word of its lengths
+one : ℕ → List ℕ
+one lengths = 0 ∷ 0 ∷ 1 ∷ 0 ∷ 0x60 ∷ 0 ∷ 0xE4 ∷ lengths ∷ []
+
+-- two segments without codes, of widths 100 and v
+two : ℕ → List ℕ
+two v = page 0x20 (0 ∷ 0 ∷ 2 ∷ 0 ∷ 0 ∷ 0 ∷ 0 ∷ 100 ∷ 0 ∷ 0 ∷ 0 ∷ 0 ∷ v ∷ []) [] []
+
+plain : Settings
+plain = settings false false 0x8080
+
+-- P8: IV with VSW 5, VSD 33, VAL 513, VTOT 518
+video : Settings
+video = record {
+  linear = true;
+  hidden = false;
+  interlace = Video;
+  cursor = false;
+  flag = 0;
+  top = record { first = 0; second = 0 };
+  tow = record { first = 0; second = 0 };
+  vsw = 5;
+  vsd = 33;
+  val = 513;
+  vtot = 518;
+  hsync = 0;
+  hsd = 1;
+  htc = 7;
+  htd = 5;
+}
+
+-- P9: codes 41 80 42, L 3, V 2, word A000
+nine : List ℕ
+nine = page 0x20 (one 0x302) (0x4180 ∷ 0x4200 ∷ []) (0xA000 ∷ [])
+
+-- P10: 132 codes 41, L and V 132, fill flag, list word 8004
+ten : List ℕ
+ten = page 0x120 (one 0x8484) (replicate 66 0x4141) (0x8004 ∷ [])
+
+-- P12: a window block at 20 on rows 3..3, columns 0 to 5
+twelve : List ℕ
+twelve = page 0 (0 ∷ 0 ∷ 0 ∷ 0 ∷ 0x303 ∷ 5 ∷ []) [] []
+
+-- a window on the rows n..n, columns 0 to right, without segments, whose next block is at `link`
+windowOn : ℕ → ℕ → ℕ → WindowInHand
+windowOn n right link = Present (record { top = n; bottom = n; left = 0; right = right; rows = 0; link = link })
+
+inHand : Outcome WindowInHand → List ℕ
+inHand (given n Absent) = []
+inHand (given n (Present w)) = w .top ∷ w .bottom ∷ w .left ∷ w .right ∷ []
+inHand (refused n a) = n ∷ []
+
+-- ---- the statement ----
+pub tests : List Bool
+tests =
+    -- P1
+    invokes 0xE000 0x1F ∷ not (invokes 0xE000 0x20)
+    -- P2
+    ∷ invokes 0xFF7F 0x7F ∷ not (invokes 0xFF7F 0x7E)
+    -- P3, and the wrap at FFFFFE
+    ∷ eqb (nextWord true 0xFFFE) 0x10000 ∷ eqb (nextWord false 0xFFFE) 0 ∷ eqb (nextWord true 0xFFFFFE) 0
+    -- P4
+    ∷ eqb (pointer false 0x0123 0) 0x10000 ∷ eqb (pointer true 0x0123 0) 0x230000
+    -- the start of S
+    ∷ eqb (wordsOfStart (startCall sheetS memoryS)) 7
+    -- P5
+    ∷ same (shown row0) (0 ∷ 8 ∷ 0 ∷ 0 ∷ 31 ∷ 12 ∷ 0x100041 ∷ 0x500042 ∷ 0x100281 ∷ replicate 129 0x220)
+    -- P6
+    ∷ same (shown row1) (1 ∷ 8 ∷ 0 ∷ 0 ∷ 31 ∷ 3 ∷ replicate 132 0x220)
+    -- P7
+    ∷ same (times (timing sheetS)) (2 ∷ 2 ∷ 32 ∷ 8 ∷ 44 ∷ [])
+    -- P8
+    ∷ same (times (timing video)) (6 ∷ 34 ∷ 480 ∷ 5 ∷ 525 ∷ [])
+    -- P9
+    ∷ same (cellsFrom 0 2 (firstRow plain nine)) (0x100041 ∷ 0x20 ∷ [])
+    ∷ same (cellsFrom 0 3 (firstRow (settings true false 0x8080) nine)) (0x100041 ∷ 0x100080 ∷ 0x100042 ∷ [])
+    -- P10
+    ∷ same (clearPart plain ten) [] ∷ same (setPart plain ten) (0x8004 ∷ [])
+    -- P11
+    ∷ same (shown (firstRow plain (two 32))) (0 ∷ 8 ∷ 0 ∷ 0 ∷ 31 ∷ 13 ∷ replicate 132 0x20)
+    ∷ same (shown (firstRow plain (two 33))) (10 ∷ 0 ∷ 0 ∷ [])
+    -- P12
+    ∷ same (inHand (run twelve (W.firstWindow true 0x20))) (3 ∷ 3 ∷ 0 ∷ 5 ∷ [])
+    ∷ same (shown (rowCall plain twelve (at 4 (windowOn 3 5 0x20)) buffer)) (8 ∷ 4 ∷ 0 ∷ [])
+    -- the codes that invoke: 128 of S's, 32 of the mask E0, all 256 of the mask 0
+    ∷ eqb (invokingCodes 0x8080) 128 ∷ eqb (invokingCodes 0xE000) 32 ∷ eqb (invokingCodes 0x00FF) 256
+    -- misreading: an unlatched word ends a latched ignore. 80 latches A000 and is out, 41 is out, 80 has 0001, 42 is out again
+    ∷ same (cellsFrom 0 2 (firstRow plain (page 0x20 (one 0x404) (0x8041 ∷ 0x8042 ∷ []) (0xA000 ∷ 1 ∷ [])))) (0x100180 ∷ 0x20 ∷ [])
+    -- misreading: the latch of a dropped character is skipped. 80 has no room, and its 8004 is in the fill after it
+    ∷ same (cellsFrom 0 2 (firstRow plain (page 0x20 (one 0x201) (0x4180 ∷ []) (0x8004 ∷ [])))) (0x100041 ∷ 0x420 ∷ [])
+    -- misreading: segments under a window are read for their attributes. The block's 8 words are all, and 8004 is not the latch
+    ∷ same (shown (rowCall plain (page 0x20 (one 0x202) (0x8041 ∷ []) (0x8004 ∷ [])) (at 0 (windowOn 0 1 0)) buffer)) (0 ∷ 8 ∷ 0 ∷ 0 ∷ 31 ∷ 8 ∷ replicate 132 0x20)
+    -- misreading: a row effect is taken from ignore clear only. S's row 0 sets 8002 from both; P10's parts differ (above)
+    ∷ same (clearPart sheetS memoryS) (0x8002 ∷ []) ∷ same (setPart sheetS memoryS) (0x8002 ∷ [])
+    ∷ []
+
+pub marked : every tests ≡ true
+unfolding same every shownAs shown cellsFrom partShown times settings sheetS memoryS at stateOfStart wordsOfStart stateAfter buffer firstRow clearPart setPart row0 row1 padded page one two plain video nine ten twelve windowOn inHand tests _>>=_ each runFrom pointer nextWord ahead words good timing linesForRows halved invokingCodes ones onesIn mainBlock mainBlockAt segmentOf segmentsOf restOfBlock blockAt rowBlockAt windowRowAt formatOf redefined W.windowOf W.windowAt W.firstWindow W.dueWindow S.formatInRange S.isAddress S.windowInRange S.inRange invokes sourceNumber cell width total fits allFit boundary edgesFit covered onSide segmentsOn windowRow overlaid nextFields plan taking put character examine codes filled fillByWord fillTo segment background cells row withCursor rowCall firstFields startFrom startCall outcomeFor effectCall
+marked = refl

@@ -1,0 +1,1 @@
+// Document 01's marked examples, computed from the definitions: specs/Marked.antt. No code.

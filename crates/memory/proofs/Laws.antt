@@ -1,0 +1,132 @@
+-- The laws by which a proof follows a reading: what it comes to, one step after the other.
+use mathlib.Core.Path.{_≡_, refl, ap, sym, _∙_}
+use mathlib.Core.List.{List, [], _∷_}
+use mathlib.Core.Bool.{Bool, true, false}
+use Prim.Native.Nat.{ℕ, suc, _+_, _/_}
+use native.Mathlib.Nat.{add-zero, add-assoc}
+use lib.ListN.{length, getD}
+use lib.Dec.{ltb}
+use Rattle.memory.specs.declared.Fetch.the-variants.{Word, Absent}
+use Rattle.memory.specs.Word.{if_then_else_}
+use Rattle.memory.specs.Reading.{Reading, done, refuse, ask, _>>=_, check, each, fetch, Outcome, given, refused, runFrom, run}
+
+-- go on from an outcome
+abbrev next : {A B : Type 0} → Outcome A → (ℕ → A → Outcome B) → Outcome B
+next (given n a) k = k n a
+next (refused n at) k = refused n at
+
+if-next : {A B : Type 0} (b : Bool) (x y : Outcome A) (k : ℕ → A → Outcome B)
+    → (if b then next x k else next y k) ≡ next (if b then x else y) k
+if-next true x y k = refl
+if-next false x y k = refl
+
+run-bind : {A B : Type 0} (n : ℕ) (m : List ℕ) (p : Reading A) (k : A → Reading B)
+    → runFrom n m (p >>= k) ≡ next (runFrom n m p) (λ i a. runFrom i m (k a))
+unfolding runFrom _>>=_
+run-bind n m (done a) k = refl
+run-bind n m (refuse i at) k = refl
+run-bind n m (ask a f) k =
+    rw (run-bind (n + 1) m (f (getD m (a / 2) 0)) k)
+    (if-next (ltb (a / 2) (length m)) (runFrom (n + 1) m (f (getD m (a / 2) 0))) (refused 7 a) (λ i a. runFrom i m (k a)))
+
+-- a reading that goes on with another: from where the first came to, or refused with it
+module _ {A B : Type 0} (n : ℕ) (m : List ℕ) (p : Reading A) (k : A → Reading B) where
+  pub bind-given : {i : ℕ} {a : A} → runFrom n m p ≡ given i a → runFrom n m (p >>= k) ≡ runFrom i m (k a)
+  bind-given e = run-bind n m p k ∙ rw e
+
+  pub bind-refused : {i at : ℕ} → runFrom n m p ≡ refused i at → runFrom n m (p >>= k) ≡ refused i at
+  bind-refused e = run-bind n m p k ∙ rw e
+
+  -- the grouping of two steps is free
+  pub bind-bind : {C : Type 0} (h : B → Reading C) → runFrom n m (p >>= k >>= h) ≡ runFrom n m (p >>= λ a. k a >>= h)
+  bind-bind h = run-bind n m (p >>= k) h ∙ rw (run-bind n m p k) (regroup (runFrom n m p))
+      ∙ sym (run-bind n m p (λ a. k a >>= h))
+    where
+      regroup : (o : Outcome A) → next (next o (λ i a. runFrom i m (k a))) (λ i b. runFrom i m (h b)) ≡ next o (λ i a. runFrom i m (k a >>= h))
+      regroup (given i a) = sym (run-bind i m (k a) h)
+      regroup (refused i at) = refl
+
+-- a reading that ends as it is
+pub bind-done : {A : Type 0} (n : ℕ) (m : List ℕ) (p : Reading A) → runFrom n m p ≡ runFrom n m (p >>= done)
+unfolding runFrom
+bind-done n m p = same (runFrom n m p) ∙ sym (run-bind n m p done)
+  where
+    same : {A : Type 0} (o : Outcome A) → o ≡ next o given
+    same (given i a) = refl
+    same (refused i at) = refl
+
+pub run-done : {A : Type 0} (n : ℕ) (m : List ℕ) (a : A) → runFrom n m (done a) ≡ given n a
+unfolding runFrom
+run-done n m a = refl
+
+pub run-refuse : {A : Type 0} (n : ℕ) (m : List ℕ) (i at : ℕ) → runFrom {A = A} n m (refuse i at) ≡ refused i at
+unfolding runFrom
+run-refuse n m i at = refl
+
+-- a check that passes, and one that does not
+module _ {A : Type 0} (n : ℕ) (m : List ℕ) (i : ℕ) (b : Bool) (k : Unit {0} → Reading A) where
+  pub check-passed : b ≡ true → runFrom n m (check i b >>= k) ≡ runFrom n m (k tt)
+  unfolding _>>=_
+  check-passed e = rw e
+
+  pub check-failed : b ≡ false → runFrom n m (check i b >>= k) ≡ refused i 0
+  unfolding _>>=_ runFrom
+  check-failed e = rw e
+
+-- a list of readings: its head, then the rest
+pub each-none : {A B C : Type 0} (n : ℕ) (m : List ℕ) (f : A → B → Reading B) (b : B) (k : B → Reading C)
+    → runFrom n m (each f [] b >>= k) ≡ runFrom n m (k b)
+unfolding each _>>=_
+each-none n m f b k = refl
+
+pub each-more : {A B C : Type 0} (n : ℕ) (m : List ℕ) (f : A → B → Reading B) (x : A) (xs : List A) (b : B) (k : B → Reading C)
+    → runFrom n m (each f (x ∷ xs) b >>= k) ≡ runFrom n m (f x b >>= λ c. each f xs c >>= k)
+unfolding each
+each-more n m f x xs b k = bind-bind n m (f x b) (each f xs) k
+
+-- what `word_at` says, of a reading that asks there
+if-word : {A : Type 0} (b : Bool) (v x : ℕ) (y : ℕ → Outcome A) (z : Outcome A)
+    → (if b then Word v else Absent) ≡ Word x → (if b then y v else z) ≡ y x
+if-word true v x y z e = let q : v ≡ x = cc in rw q
+if-word false v x y z e = let q : true ≡ false = cc in cc
+
+if-absent : {A : Type 0} (b : Bool) (v : ℕ) (y z : Outcome A) → (if b then Word v else Absent) ≡ Absent → (if b then y else z) ≡ z
+if-absent true v y z e = cc
+if-absent false v y z e = refl
+
+module _ {A : Type 0} (n : ℕ) (m : List ℕ) (a : ℕ) (f : ℕ → Reading A) where
+  pub ask-word : (x : ℕ) → fetch m a ≡ Word x → runFrom n m (ask a f) ≡ runFrom (n + 1) m (f x)
+  unfolding runFrom
+  ask-word x e = if-word (ltb (a / 2) (length m)) (getD m (a / 2) 0) x (λ v. runFrom (n + 1) m (f v)) (refused 7 a) e
+
+  pub ask-absent : fetch m a ≡ Absent → runFrom n m (ask a f) ≡ refused 7 a
+  unfolding runFrom
+  ask-absent e = if-absent (ltb (a / 2) (length m)) (getD m (a / 2) 0) _ _ e
+
+-- what a reading comes to after n words, from what it comes to at the start: for a callee that counts from 0
+abbrev pub after : {A : Type 0} → ℕ → Outcome A → Outcome A
+after n (given i a) = given (n + i) a
+after n (refused i at) = refused i at
+
+if-after : {A : Type 0} (n : ℕ) (b : Bool) (x y : Outcome A) → (if b then after n x else after n y) ≡ after n (if b then x else y)
+if-after n true x y = refl
+if-after n false x y = refl
+
+run-plus : {A : Type 0} (n i : ℕ) (m : List ℕ) (p : Reading A) → runFrom (n + i) m p ≡ after n (runFrom i m p)
+unfolding runFrom
+run-plus n i m (done a) = refl
+run-plus n i m (refuse k at) = refl
+run-plus n i m (ask a f) =
+    rw (add-assoc n i 1, run-plus n (i + 1) m (f (getD m (a / 2) 0)))
+    (if-after n (ltb (a / 2) (length m)) (runFrom (i + 1) m (f (getD m (a / 2) 0))) (refused 7 a))
+
+pub run-after : {A : Type 0} (n : ℕ) (m : List ℕ) (p : Reading A) → runFrom n m p ≡ after n (run m p)
+run-after n m p = ap (λ (i : ℕ). runFrom i m p) (sym (add-zero n)) ∙ run-plus n 0 m p
+
+-- a step whose outcome was counted from 0, and what comes after it
+module _ {A B : Type 0} (n : ℕ) (m : List ℕ) (p : Reading A) (k : A → Reading B) where
+  pub step-given : {i : ℕ} {a : A} → run m p ≡ given i a → runFrom n m (p >>= k) ≡ runFrom (n + i) m (k a)
+  step-given e = bind-given n m p k (run-after n m p ∙ ap (after n) e)
+
+  pub step-refused : {i at : ℕ} → run m p ≡ refused i at → runFrom n m (p >>= k) ≡ refused i at
+  step-refused e = bind-refused n m p k (run-after n m p ∙ ap (after n) e)

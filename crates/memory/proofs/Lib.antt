@@ -1,0 +1,6 @@
+pub mod Laws
+pub mod WordLaws
+pub mod ListLaws
+pub mod Agree
+pub mod ReadBounds
+pub mod Related

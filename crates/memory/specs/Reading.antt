@@ -1,0 +1,63 @@
+-- A reading is a rule that reads memory: what it asks for, word by word, and what it then gives or refuses.
+-- The count of words, refusal 7 with its address and the addresses read, in order, are defined here once for every rule.
+use mathlib.Core.List.{List, [], _∷_}
+use mathlib.Core.Bool.{Bool, true, false}
+use Prim.Native.Nat.{ℕ, zero, suc, _+_, _/_}
+use lib.ListN.{length, getD}
+use lib.Dec.{ltb}
+use Rattle.memory.specs.declared.Fetch.{Fetch}
+use Rattle.memory.specs.declared.Fetch.the-variants.{Word, Absent}
+use Rattle.memory.specs.Word.{if_then_else_}
+
+pub data Reading (A : Type 0) : Type 0 where
+  done : A → Reading A
+  refuse : (number address : ℕ) → Reading A
+  ask : (address : ℕ) → (ℕ → Reading A) → Reading A
+
+-- the word at an address
+abbrev pub word : ℕ → Reading ℕ
+word a = ask a done
+
+infixl 20 _>>=_
+infixl 20 _>>_
+unfoldable pub _>>=_ : {A B : Type 0} → Reading A → (A → Reading B) → Reading B
+done a >>= k = k a
+refuse n at >>= k = refuse n at
+ask a f >>= k = ask a (λ w. f w >>= k)
+
+abbrev pub _>>_ : {A B : Type 0} → Reading A → Reading B → Reading B
+p >> q = p >>= λ _. q
+
+-- refusal n, at address 0, unless the test holds
+abbrev pub check : ℕ → Bool → Reading (Unit {0})
+check n true = done tt
+check n false = refuse n 0
+
+-- a reading for each of a list, in order, that carries a value along
+unfoldable pub each : {A B : Type 0} → (A → B → Reading B) → List A → B → Reading B
+each f [] b = done b
+each f (x ∷ xs) b = f x b >>= each f xs
+
+-- "Memory is a lent slice of 16-bit words; the word at byte address a is number a/2."
+abbrev pub fetch : List ℕ → ℕ → Fetch
+fetch m a = if ltb (a / 2) (length m) then Word (getD m (a / 2) 0) else Absent
+
+-- what a reading comes to: "The word count is every word read"; a refusal has a number and an address
+pub data Outcome (A : Type 0) : Type 0 where
+  given : (words : ℕ) → A → Outcome A
+  refused : (number address : ℕ) → Outcome A
+
+-- on the memory m, n words having been read before. Refusal 7, "word outside memory", has the address of "the missing word"
+unfoldable pub runFrom : {A : Type 0} → ℕ → List ℕ → Reading A → Outcome A
+runFrom n m (done a) = given n a
+runFrom n m (refuse k at) = refused k at
+runFrom n m (ask a f) = if ltb (a / 2) (length m) then runFrom (n + 1) m (f (getD m (a / 2) 0)) else refused 7 a
+
+abbrev pub run : {A : Type 0} → List ℕ → Reading A → Outcome A
+run m p = runFrom 0 m p
+
+-- the addresses asked for, in order; the last one of a refusal 7 is the missing word's
+unfoldable pub asked : {A : Type 0} → List ℕ → Reading A → List ℕ
+asked m (done a) = []
+asked m (refuse k at) = []
+asked m (ask a f) = a ∷ (if ltb (a / 2) (length m) then asked m (f (getD m (a / 2) 0)) else [])

@@ -1,0 +1,118 @@
+// Display memory: pointers, addresses, and the words that a host lends.
+ghost use mathlib.Core.Path.{_≡_};
+ghost use lib.ListN.{length};
+ghost use Rattle.memory.specs.Word.{bit, high, low};
+ghost use Rattle.memory.specs.Reading.{fetch, run};
+ghost use Rattle.memory.specs.Address.{pointer, nextWord, ahead, words, wordsRead};
+
+// A refusal of document 01: its number, the row and the address that it tells.
+pub struct Refusal {
+    pub number: u8,
+    pub row: u16,
+    pub address: u32,
+}
+
+// A word of memory, or that the address lies outside it.
+pub enum Fetch {
+    Word(u16),
+    Absent,
+}
+
+// That a slice is filled, or the address of the first word that lies outside memory.
+pub enum WordsRead {
+    Whole,
+    Missing(u32),
+}
+
+// The high byte of a word.
+pub fn high_byte(w: u16) -> u8
+    ensures { λ r. ⌜ r ≡ high w ⌝ }
+{
+    (w / 256) as u8
+}
+
+// The low byte of a word.
+pub fn low_byte(w: u16) -> u8
+    ensures { λ r. ⌜ r ≡ low w ⌝ }
+{
+    (w % 256) as u8
+}
+
+// Bit 15 of a word.
+pub fn bit_15(w: u16) -> bool
+    ensures { λ r. ⌜ r ≡ bit 15 w ⌝ }
+{
+    w / 32768 % 2 == 1
+}
+
+// Bit 13 of a word.
+pub fn bit_13(w: u16) -> bool
+    ensures { λ r. ⌜ r ≡ bit 13 w ⌝ }
+{
+    w / 8192 % 2 == 1
+}
+
+// The address that a pointer's two words give; 0 points at nothing.
+pub fn pointer(linear: bool, first: u16, second: u16) -> u32
+    ensures { λ r. ⌜ r ≡ pointer linear first second ⌝ }
+{
+    if linear {
+        (first as u32 % 256 * 65536 + second as u32) / 2 * 2
+    } else {
+        (first as u32 / 256 % 128 * 65536 + second as u32) / 2 * 2
+    }
+}
+
+// The address of the word after the one at `a`.
+pub fn next_word(linear: bool, a: u32) -> u32
+    ensures { λ r. ⌜ r ≡ nextWord linear a ⌝ }
+{
+    if linear {
+        (a % 16777216 + 2) % 16777216
+    } else {
+        let page = a / 65536 * 65536;
+        page + (a % 65536 + 2) % 65536
+    }
+}
+
+// The address `count` words after `a`.
+pub fn words_ahead(linear: bool, count: u32, a: u32) -> u32
+    ensures { λ r. ⌜ r ≡ ahead linear count a ⌝ }
+{
+    let mut at = a;
+    let mut left = count;
+    while 0 < left {
+        at = next_word(linear, at);
+        left -= 1;
+    }
+    at
+}
+
+// The word at the address `a`.
+pub fn word_at(mem: &[u16], a: u32) -> Fetch
+    ensures { λ r. ⌜ r ≡ fetch (now (mem .entry)) a ⌝ }
+{
+    let i = (a / 2) as usize;
+    if i < mem.len() {
+        Fetch::Word(mem[i])
+    } else {
+        Fetch::Absent
+    }
+}
+
+// As many words as `into` holds, from the address `a` on.
+pub fn read_words(mem: &[u16], linear: bool, a: u32, into: &mut [u16]) -> WordsRead
+    ensures { λ r. ⌜ wordsRead r (now (into .exit)) ≡ run (now (mem .entry)) (words linear (length (now (into .entry))) a) ⌝ }
+{
+    let mut at = a;
+    let mut i = 0;
+    while i < into.len() {
+        let Fetch::Word(w) = word_at(mem, at) else {
+            return WordsRead::Missing(at);
+        };
+        into[i] = w;
+        at = next_word(linear, at);
+        i += 1;
+    }
+    WordsRead::Whole
+}

@@ -1,0 +1,164 @@
+-- A row drawn from two latches with the same bit 13 asks alike and ends alike but for its cells: a word of the row became the
+-- latch of both, or each still has its own. And the plan of a row does not depend on its latch.
+use mathlib.Core.Path.{_≡_, refl}
+use mathlib.Core.Bool.{Bool, true, false, _&&_, _||_, not}
+use mathlib.Core.List.{List, []}
+use Prim.Native.Nat.{ℕ, zero, suc, _+_, _-_}
+use lib.Dec.{ltb}
+use Rattle.memory.specs.Word.{if_then_else_, high, low}
+use Rattle.memory.specs.Reading.{Reading, done, _>>=_, Outcome, given, refused, runFrom, run}
+use Rattle.memory.specs.Address.{nextWord}
+use Rattle.memory.proofs.Laws.{bind-given, bind-refused}
+use Rattle.memory.proofs.Related.{Rel, dones, refuses, asks, if-rel, bind, bind-same, each-rel}
+use Rattle.settings.specs.declared.Settings.{Settings}
+use Rattle.blocks.specs.declared.FillMode.{FillMode}
+use Rattle.blocks.specs.declared.Segment.{Segment}
+use Rattle.row.specs.declared.Source.{Source}
+use Rattle.row.specs.declared.Source.the-variants.{Background, Window}
+use Rattle.row.specs.declared.AttributeList.{AttributeList}
+use Rattle.row.specs.declared.Fields.{Fields}
+use Rattle.row.specs.State.{stateOf}
+use Rattle.row.specs.Attribute.{invokes, latches, ignores}
+use Rattle.row.specs.Layout.{width, Overlay, none, over, Side, whole, before, after}
+use Rattle.row.specs.Plan.{Plan, plan}
+use Rattle.row.specs.Cells.{Drawing, drawing, noList, listAt, withList, taking, put, character, examine, codes}
+use Rattle.row.specs.Cells.{filled, fillByWord, fillTo, segment, background, cells}
+use Rattle.row.specs.Row.{Row, drawnBy, blank, row}
+
+module _ (l₁ l₂ : ℕ) where
+  -- the latches of two drawings, one begun with l₁ and one with l₂; the flag says whether a word of the row became the latch
+  pub data Held : Bool → ℕ → ℕ → Type 0 where
+    kept : Held false l₁ l₂
+    became : (w : ℕ) → Held true w w
+
+  -- two drawings that stand alike but for their cells
+  pub data Alike : Drawing → Drawing → Type 0 where
+    alike : {b : Bool} {w₁ w₂ : ℕ} (c : ℕ) (u : AttributeList) (xs ys : List ℕ) → Held b w₁ w₂
+        → Alike (drawing (record { column = c; latch = w₁; latched = b; list = u }) xs)
+        (drawing (record { column = c; latch = w₂; latched = b; list = u }) ys)
+
+  -- two rows that end alike: one plan, and drawings that stand alike
+  pub data EndAlike : Row → Row → Type 0 where
+    ends : (p : Plan) (d e : Drawing) → Alike d e → EndAlike (drawnBy p d) (drawnBy p e)
+
+  -- a step of the walk that keeps drawings alike
+  abbrev Keeps : (Drawing → Reading Drawing) → Type 0
+  Keeps k = (d e : Drawing) → Alike d e → Rel Alike (k d) (k e)
+
+  with-list : (u : AttributeList) (d e : Drawing) → Alike d e → Alike (withList u d) (withList u e)
+  with-list v d e (alike c u xs ys h) = alike c v xs ys h
+
+  -- the list in use before comes back
+  list-back : (d₁ e₁ d₂ e₂ : Drawing) → Alike d₁ e₁ → Alike d₂ e₂
+      → Alike (withList (d₁ .pen .list) d₂) (withList (e₁ .pen .list) e₂)
+  list-back d₁ e₁ d₂ e₂ (alike c u xs ys h) r = with-list u d₂ e₂ r
+
+  put-alike : (n x y : ℕ) (d e : Drawing) → Alike d e → Alike (put n x d) (put n y e)
+  unfolding put
+  put-alike n x y d e (alike c u xs ys h) = alike (c + n) u _ _ h
+
+  -- either side of the word's bit 15
+  held-taking : (t : Bool) (w : ℕ) {b : Bool} {w₁ w₂ : ℕ} → Held b w₁ w₂
+      → Held (if t then true else b) (if t then w else w₁) (if t then w else w₂)
+  held-taking true w h = became w
+  held-taking false w h = h
+
+  taking-alike : (linear : Bool) (w : ℕ) (d e : Drawing) → Alike d e
+      → Alike (drawing (taking linear w (d .pen)) (d .cells)) (drawing (taking linear w (e .pen)) (e .cells))
+  unfolding taking
+  taking-alike linear w d e (alike c u xs ys h) = alike c _ xs ys (held-taking (latches w) w h)
+
+module _ (l₁ l₂ : ℕ) (same : ignores l₁ ≡ ignores l₂) (σ : Settings) where
+  held-ignores : {b : Bool} {w₁ w₂ : ℕ} → Held l₁ l₂ b w₁ w₂ → ignores w₁ ≡ ignores w₂
+  held-ignores kept = same
+  held-ignores (became w) = refl
+
+  character-alike : (source : Source) (end x y code : ℕ) → ignores x ≡ ignores y → (d e : Drawing) → Alike l₁ l₂ d e
+      → Alike l₁ l₂ (character σ source end x code d) (character σ source end y code e)
+  unfolding character
+  character-alike source end x y code i d e (alike c u xs ys h) =
+      let r = alike c u xs ys h in
+      rw i (if-rel (Alike l₁ l₂) ((σ .hidden || not (ignores y)) && ltb c end) (put-alike l₁ l₂ 1 _ _ _ _ r) r)
+
+  examine-keeps : (source : Source) (end code : ℕ) → Keeps l₁ l₂ (examine σ source end code)
+  unfolding examine _>>=_
+  examine-keeps source end code d e (alike c u xs ys h) =
+      let r = alike c u xs ys h in
+      if-rel (Rel (Alike l₁ l₂)) (invokes (σ .flag) code && u .present)
+      (asks λ w. dones (character-alike source end w w code refl _ _ (taking-alike l₁ l₂ (σ .linear) w _ _ r)))
+      (dones (character-alike source end _ _ code (held-ignores h) _ _ r))
+
+  codes-keeps : (source : Source) (end n a : ℕ) → Keeps l₁ l₂ (codes σ source end n a)
+  unfolding codes _>>=_
+  codes-keeps source end zero a d e r = dones r
+  codes-keeps source end (suc zero) a d e r = asks λ w. examine-keeps source end (high w) d e r
+  codes-keeps source end (suc (suc n)) a d e r =
+      asks λ w. bind (examine-keeps source end (high w) d e r) λ d₁ e₁ r₁.
+      bind (examine-keeps source end (low w) d₁ e₁ r₁) (codes-keeps source end n (nextWord (σ .linear) a))
+
+  module _ (fill : FillMode) where
+    filled-alike : (end : ℕ) (d e : Drawing) → Alike l₁ l₂ d e → Alike l₁ l₂ (filled σ fill end d) (filled σ fill end e)
+    unfolding filled
+    filled-alike end d e (alike c u xs ys h) = put-alike l₁ l₂ (end - c) _ _ _ _ (alike c u xs ys h)
+
+    word-keeps : (end : ℕ) → Keeps l₁ l₂ (fillByWord σ fill end)
+    unfolding fillByWord _>>=_
+    word-keeps end d e (alike c u xs ys h) =
+        asks λ w. if-rel (Rel (Alike l₁ l₂)) (latches w)
+        (dones (filled-alike end _ _ (taking-alike l₁ l₂ (σ .linear) w _ _ (alike c u xs ys h)))) refuses
+
+    fill-keeps : (end : ℕ) → Keeps l₁ l₂ (fillTo σ fill end)
+    unfolding fillTo
+    fill-keeps end d e (alike c u xs ys h) =
+        let r = alike c u xs ys h in
+        if-rel (Rel (Alike l₁ l₂)) (ltb c end)
+        (if-rel (Rel (Alike l₁ l₂)) (fill .flag && u .present) (word-keeps end _ _ r) (dones (filled-alike end _ _ r))) (dones r)
+
+    segment-keeps : (source : Source) (g : Segment) → Keeps l₁ l₂ (segment σ fill source g)
+    unfolding segment
+    segment-keeps source g d e (alike c u xs ys h) =
+        let end = c + width (σ .hidden) g in
+        bind (codes-keeps source end _ (g .codes) _ _ (alike c (listAt (g .attributes)) xs ys h)) (fill-keeps end)
+
+    background-keeps : (side : Side) (gs : List Segment) → Keeps l₁ l₂ (background σ fill side gs)
+    unfolding background
+    background-keeps side gs = each-rel (segment-keeps Background) _
+
+    cells-keeps : (o : Overlay) (gs : List Segment) → Keeps l₁ l₂ (cells σ fill o gs)
+    unfolding cells
+    cells-keeps none gs d e r = bind (background-keeps whole gs d e r) (fill-keeps 132)
+    cells-keeps (over first end ws) gs d e r =
+        bind (background-keeps (before first) gs d e r) λ d₁ e₁ r₁.
+        bind (fill-keeps first d₁ e₁ r₁) λ d₂ e₂ r₂.
+        bind (each-rel (segment-keeps Window) ws _ _ (with-list l₁ l₂ noList d₂ e₂ r₂)) λ d₃ e₃ r₃.
+        bind (fill-keeps end d₃ e₃ r₃) λ d₄ e₄ r₄.
+        bind (background-keeps (after first end) gs _ _ (list-back l₁ l₂ d₂ e₂ d₄ e₄ r₂ r₄)) (fill-keeps 132)
+
+  pub row-alike : (f : Fields) → Rel (EndAlike l₁ l₂) (row σ (stateOf l₁ f)) (row σ (stateOf l₂ f))
+  unfolding row
+  row-alike f =
+      bind-same (plan σ f) λ p.
+      bind (cells-keeps (f .fill) (p .overlay) (p .segments) _ _ (alike 0 noList [] [] kept)) λ d e r. dones (ends p d e r)
+
+-- a row's outcome, against that of its plan: an accepted row has that plan
+pub data Planned : Outcome Plan → Outcome Row → Type 0 where
+  accepts : {i n : ℕ} {p : Plan} {d : Drawing} → Planned (given i p) (given n (drawnBy p d))
+  refusing : {o : Outcome Plan} {n at : ℕ} → Planned o (refused n at)
+
+pub row-planned : (σ : Settings) (m : List ℕ) (f : Fields) (latch : ℕ) → Planned (run m (plan σ f)) (run m (row σ (stateOf latch f)))
+unfolding row runFrom
+row-planned σ m f latch = by-plan (run m (plan σ f)) refl
+  where
+    drawn : Plan → Reading Drawing
+    drawn p = cells σ (f .fill) (p .overlay) (p .segments) (blank latch)
+
+    ended : Plan → Drawing → Reading Row
+    ended p d = done (drawnBy p d)
+
+    by-cells : (i : ℕ) (p : Plan) (o : Outcome Drawing) → runFrom i m (drawn p) ≡ o → Planned (given i p) (runFrom i m (drawn p >>= ended p))
+    by-cells i p (given n d) e = rw (bind-given i m (drawn p) (ended p) e) accepts
+    by-cells i p (refused n at) e = rw (bind-refused i m (drawn p) (ended p) e) refusing
+
+    by-plan : (o : Outcome Plan) → run m (plan σ f) ≡ o → Planned o (run m (plan σ f >>= λ p. drawn p >>= ended p))
+    by-plan (given i p) e = rw (bind-given 0 m (plan σ f) (λ p. drawn p >>= ended p) e) (by-cells i p (runFrom i m (drawn p)) refl)
+    by-plan (refused n at) e = rw (bind-refused 0 m (plan σ f) (λ p. drawn p >>= ended p) e) refusing

@@ -1,0 +1,4 @@
+pub mod LayoutLaws
+pub mod RowBounds
+pub mod RowBound
+pub mod Alike

@@ -1,0 +1,39 @@
+-- Document 01: "The word count is every word read; a row reads fewer than 12,000." And a row has 132 cells.
+use mathlib.Core.Path.{_≡_, refl, _∙_}
+use mathlib.Core.Bool.{_&&_}
+use mathlib.Core.List.{List}
+use Prim.Native.Nat.{ℕ, _<_}
+use native.Mathlib.Omega.{arith}
+use native.Mathlib.Nat.{le-refl}
+use lib.ListN.{length, length-set}
+use lib.Dec.{eqb}
+use Rattle.memory.specs.Reading.{Outcome, given, run}
+use Rattle.memory.proofs.ReadBounds.{Words, Within, given-within, refused-within, if-cases, run-reads, reads-given}
+use Rattle.settings.specs.declared.Settings.{Settings}
+use Rattle.row.specs.declared.Fields.{Fields}
+use Rattle.row.specs.declared.State.{State}
+use Rattle.row.specs.Row.{Row, row, withCursor, Called, answered, rowCall}
+use Rattle.row.proofs.RowBounds.{row-reads}
+
+-- the cursor's mark adds no cell
+pub cursor-length : (σ : Settings) (f : Fields) (cs : List ℕ) → length (withCursor σ f cs) ≡ length cs
+unfolding withCursor
+cursor-length σ f cs =
+    if-cases (λ (r : List ℕ). length r ≡ length cs) (σ .cursor && eqb (f .cursor .y) (f .row)) (λ _. simp length-set) (λ _. refl)
+
+answered-length : (σ : Settings) (f : Fields) (buffer : List ℕ) {t : ℕ} {o : Outcome Row} → length buffer ≡ 132
+    → Within (λ r. length (r .drawing .cells) ≡ 132) t o → length (answered σ f buffer o .buffer) ≡ 132
+answered-length σ f buffer l (given-within {a = r} _ h) = cursor-length σ f (r .drawing .cells) ∙ h
+answered-length σ f buffer l refused-within = l
+
+-- on a memory of 16-bit words
+module _ (σ : Settings) (m : List ℕ) (b : Words m) (s : State) where
+  pub row-bound : (n : ℕ) (r : Row) → run m (row σ s) ≡ given n r → (n < 12000) × (length (r .drawing .cells) ≡ 132)
+  row-bound n r e = let k = reads-given 0 m b (row-reads σ s) e in (omega arith, k .1)
+
+  -- a row buffer of 132 cells has 132 after the call, accepted or refused
+  pub buffer-length : (buffer : List ℕ) → length buffer ≡ 132 → length (rowCall σ m s buffer .buffer) ≡ 132
+  unfolding rowCall
+  buffer-length buffer l =
+      if-cases (λ (c : Called). length (c .buffer) ≡ 132) (eqb (length buffer) 132)
+      (λ _. answered-length σ (s .fields) buffer l (run-reads 0 m b (le-refl 11690) (row-reads σ s))) (λ _. l)

@@ -1,0 +1,88 @@
+-- What a row is drawn from, before any cell: checks 2 to 5, a due window, the row block and its redefinition, 9, 10, the window
+-- row block, 9, 11, and 12. It asks for no latch.
+use Prim.Native.Nat.{ℕ, _+_, _-_, min}
+use mathlib.Core.Bool.{Bool, _&&_}
+use mathlib.Core.List.{List}
+use lib.Dec.{ltb, leb}
+use Rattle.memory.specs.Word.{if_then_else_}
+use Rattle.memory.specs.Reading.{Reading, done, _>>=_, _>>_, check}
+use Rattle.settings.specs.declared.Settings.{Settings}
+use Rattle.settings.specs.Good.{good}
+use Rattle.blocks.specs.declared.Segment.{Segment}
+use Rattle.blocks.specs.declared.RowFormat.{RowFormat}
+use Rattle.blocks.specs.declared.Window.{Window}
+use Rattle.blocks.specs.declared.WindowInHand.{WindowInHand}
+use Rattle.blocks.specs.declared.WindowInHand.the-variants.{Absent, Present}
+use Rattle.blocks.specs.RowBlock.{RowBlock, rowBlockAt, windowRowAt, redefined}
+use Rattle.blocks.specs.Window.{dueWindow}
+use Rattle.row.specs.declared.Fields.{Fields}
+use Rattle.row.specs.State.{inRange}
+use Rattle.row.specs.Layout.{total, allFit, Overlay, none, over, edgesFit}
+
+-- the window on a row, and the window in hand after it
+pub record Overlaid : Type 0 where
+  pub overlay : Overlay
+  pub window : WindowInHand
+
+-- the window with its next row block
+abbrev pub withRows : ℕ → Window → Window
+withRows a w = record { top = w .top; bottom = w .bottom; left = w .left; right = w .right; rows = a; link = w .link }
+
+-- "window row block (7), 9, 11"
+unfoldable pub windowRow : Settings → Window → Reading Overlaid
+windowRow σ w = do
+  b ← windowRowAt (σ .linear) (w .rows)
+  check 9 (allFit (b .segments))
+  check 11 (leb (total (σ .hidden) (b .segments)) (w .right + 1 - w .left))
+  done (record { overlay = over (w .left) (w .right + 1) (b .segments); window = Present (withRows (b .link) w) })
+
+-- "On its rows a window replaces its columns."
+unfoldable pub overlaid : Settings → ℕ → WindowInHand → Reading Overlaid
+overlaid σ row Absent = done (record { overlay = none; window = Absent })
+overlaid σ row (Present w) =
+    if leb (w .top) row && leb row (w .bottom) then windowRow σ w else done (record { overlay = none; window = Present w })
+
+pub record Plan : Type 0 where
+  pub lines : ℕ
+  pub format : RowFormat
+  pub segments : List Segment
+  pub overlay : Overlay
+  pub next : Fields
+
+-- "A row takes the smaller of its scan lines and the lines left."
+abbrev pub linesTaken : RowFormat → Fields → ℕ
+linesTaken format f = min (format .lines) (f .left)
+
+-- the fields of the next state
+unfoldable pub nextFields : Fields → RowFormat → RowBlock → WindowInHand → Fields
+nextFields f format b window = record {
+  row = f .row + 1;
+  left = f .left - linesTaken format f;
+  cursor = f .cursor;
+  fill = f .fill;
+  format = format;
+  next = b .link;
+  window = window;
+}
+
+-- "Row: 1 to 5; a due window (7, 8); the whole row block, then its redefinition (7), 9, 10; window row block (7), 9, 11; 12"
+unfoldable pub plan : Settings → Fields → Reading Plan
+plan σ f = do
+  check 2 (good σ)
+  check 3 (inRange f)
+  check 4 (ltb 0 (f .left))
+  check 5 (ltb (f .row) 4095)
+  w ← dueWindow (σ .linear) (f .row) (f .window)
+  b ← rowBlockAt (σ .linear) (f .next)
+  format ← redefined (σ .linear) (b .redefinition) (f .format)
+  check 9 (allFit (b .segments))
+  check 10 (leb (total (σ .hidden) (b .segments)) 132)
+  o ← overlaid σ (f .row) w
+  check 12 (edgesFit (σ .hidden) (o .overlay) (b .segments))
+  done (record {
+    lines = linesTaken format f;
+    format = format;
+    segments = b .segments;
+    overlay = o .overlay;
+    next = nextFields f format b (o .window);
+  })

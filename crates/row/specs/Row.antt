@@ -1,0 +1,75 @@
+-- A row, and the row call with its row buffer.
+use Prim.Native.Nat.{ℕ, _^_}
+use mathlib.Core.Bool.{Bool, false, _&&_}
+use mathlib.Core.List.{List, []}
+use lib.ListN.{length, getD, set}
+use lib.Dec.{ltb, eqb}
+use lib.Bits.{bitOr}
+use Rattle.memory.specs.Word.{if_then_else_}
+use Rattle.memory.specs.Reading.{Reading, done, _>>=_, Outcome, given, refused, run}
+use Rattle.settings.specs.declared.Settings.{Settings}
+use Rattle.row.specs.declared.Pen.{Pen}
+use Rattle.row.specs.declared.Fields.{Fields}
+use Rattle.row.specs.declared.State.{State}
+use Rattle.row.specs.declared.RowAnswer.{RowAnswer}
+use Rattle.row.specs.declared.RowAnswer.the-variants.{Accepted, Refused}
+use Rattle.row.specs.State.{stateOf, refusal}
+use Rattle.row.specs.Plan.{Plan, plan}
+use Rattle.row.specs.Cells.{Drawing, drawing, noList, cells}
+
+-- what a row comes to: its plan, and its drawing at the end
+pub record Row : Type 0 where
+  pub plan : Plan
+  pub drawing : Drawing
+
+abbrev pub drawnBy : Plan → Drawing → Row
+drawnBy p d = record { plan = p; drawing = d }
+
+-- no cell yet, no list in use, and no word has become the latch
+abbrev pub blank : ℕ → Drawing
+blank latch = drawing (record { column = 0; latch = latch; latched = false; list = noList }) []
+
+-- "Row: 1 to 5; .. 12; then cells as met (7, 13)." Check 1, on the row buffer, is the row call's.
+unfoldable pub row : Settings → State → Reading Row
+row σ s = do
+  p ← plan σ (s .fields)
+  d ← cells σ (s .fields .fill) (p .overlay) (p .segments) (blank (s .latch))
+  done (drawnBy p d)
+
+-- Cell bit "22 the absolute cursor, when enabled and X, Y are this cell"
+unfoldable pub withCursor : Settings → Fields → List ℕ → List ℕ
+withCursor σ f cs =
+    if σ .cursor && eqb (f .cursor .y) (f .row)
+    then set cs (f .cursor .x) (bitOr (getD cs (f .cursor .x) 0) (2 ^ 22))
+    else cs
+
+-- a call's answer, and what its row buffer then holds
+pub record Called : Type 0 where
+  pub answer : RowAnswer
+  pub buffer : List ℕ
+
+abbrev pub called : RowAnswer → List ℕ → Called
+called answer buffer = record { answer = answer; buffer = buffer }
+
+-- "A row's answer is its number, lines, row attributes, CURS, CURE, word count, cells and next state."
+abbrev pub accepted : Settings → Fields → ℕ → Row → Called
+accepted σ f words r =
+    called (Accepted (record {
+      number = f .row;
+      lines = r .plan .lines;
+      format = r .plan .format;
+      words = words;
+      next = stateOf (r .drawing .pen .latch) (r .plan .next);
+    })) (withCursor σ f (r .drawing .cells))
+
+-- "State and buffer stay"
+abbrev pub answered : Settings → Fields → List ℕ → Outcome Row → Called
+answered σ f buffer (given n r) = accepted σ f n r
+answered σ f buffer (refused n a) = called (Refused (refusal (f .row) n a)) buffer
+
+-- Refusal 1: "row buffer not 132 cells"
+unfoldable pub rowCall : Settings → List ℕ → State → List ℕ → Called
+rowCall σ m s buffer =
+    if eqb (length buffer) 132
+    then answered σ (s .fields) buffer (run m (row σ s))
+    else called (Refused (refusal (s .fields .row) 1 0)) buffer

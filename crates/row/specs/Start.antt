@@ -1,0 +1,53 @@
+-- The start of a frame.
+use Prim.Native.Nat.{ℕ}
+use mathlib.Core.Bool.{not}
+use mathlib.Core.List.{List}
+use Rattle.memory.specs.Reading.{Reading, done, _>>=_, _>>_, check, Outcome, given, refused, run}
+use Rattle.memory.specs.Address.{pointer}
+use Rattle.settings.specs.declared.Settings.{Settings}
+use Rattle.settings.specs.Good.{good}
+use Rattle.settings.specs.Timing.{linesForRows}
+use Rattle.blocks.specs.declared.MainBlock.{MainBlock}
+use Rattle.blocks.specs.declared.WindowInHand.{WindowInHand}
+use Rattle.blocks.specs.Main.{mainBlockAt}
+use Rattle.blocks.specs.RowBlock.{null}
+use Rattle.blocks.specs.Window.{firstWindow}
+use Rattle.row.specs.declared.Fields.{Fields}
+use Rattle.row.specs.declared.State.{State}
+use Rattle.row.specs.declared.StartAnswer.{StartAnswer}
+use Rattle.row.specs.declared.StartAnswer.the-variants.{Accepted, Refused}
+use Rattle.row.specs.State.{stateOf, refusal}
+
+-- "A frame starts with row attributes 0, M6's lines, CURS 0, CURE 31."
+unfoldable pub firstFields : Settings → MainBlock → WindowInHand → Fields
+firstFields σ m w = record {
+  row = 0;
+  left = linesForRows σ;
+  cursor = m .cursor;
+  fill = m .fill;
+  format = record { lines = m .lines; attributes = 0; curs = 0; cure = 31 };
+  next = m .rows;
+  window = w;
+}
+
+-- "Start: 2, 6, 7 for the main block, then 7 and 8 for the first window." Refusal 6: "TOP null (start)"
+unfoldable pub startFrom : ℕ → Settings → Reading State
+startFrom latch σ = do
+  check 2 (good σ)
+  let top = pointer (σ .linear) (σ .top .first) (σ .top .second)
+  check 6 (not (null top))
+  m ← mainBlockAt (σ .linear) top
+  w ← firstWindow (σ .linear) (pointer (σ .linear) (σ .tow .first) (σ .tow .second))
+  done (stateOf latch (firstFields σ m w))
+
+-- "The latch .. is 0 at the start of a frame."
+abbrev pub start : Settings → Reading State
+start σ = startFrom 0 σ
+
+-- "a refused start gives no state"; "the row is 0 at the start"
+abbrev pub started : Outcome State → StartAnswer
+started (given n s) = Accepted (record { words = n; state = s })
+started (refused n a) = Refused (refusal 0 n a)
+
+unfoldable pub startCall : Settings → List ℕ → StartAnswer
+startCall σ m = started (run m (start σ))

@@ -1,0 +1,3 @@
+pub mod GoodLaws
+pub mod CodeLaws
+pub mod FieldSum

@@ -1,0 +1,56 @@
+-- Document 01, "Settings and memory": when settings are good.
+use Prim.Native.Nat.{ℕ, _-_, _%_, _<_, _≤_}
+use mathlib.Core.Bool.{Bool, true, false, _&&_}
+use lib.Dec.{ltb, leb, eqb}
+use Rattle.settings.specs.declared.Interlace.{Interlace}
+use Rattle.settings.specs.declared.Interlace.the-variants.{Progressive, RepeatField, Video}
+use Rattle.settings.specs.declared.Settings.{Settings}
+
+-- "interlace 0 none 1 RFI 2 IV": document 01's number of each mode
+abbrev pub interlaceNumber : Interlace → ℕ
+interlaceNumber Progressive = 0
+interlaceNumber RepeatField = 1
+interlaceNumber Video = 2
+
+-- "VSW and VSD 0..63; VAL and VTOT 0..4095; HSYNC 0..255; HSD 0..511; HTC and HTD 0..1023"
+abbrev pub inRange : Settings → Bool
+inRange σ =
+    leb (σ .vsw) 63 && leb (σ .vsd) 63 && leb (σ .val) 4095 && leb (σ .vtot) 4095
+    && leb (σ .hsync) 255 && leb (σ .hsd) 511 && leb (σ .htc) 1023 && leb (σ .htd) 1023
+
+-- "VSD < VAL <= VTOT, HSYNC < HTC, HSD < HTD <= HTC, and HTD - HSD, the shown columns, is at most 132"
+abbrev pub inOrder : Settings → Bool
+inOrder σ =
+    ltb (σ .vsd) (σ .val) && leb (σ .val) (σ .vtot)
+    && ltb (σ .hsync) (σ .htc) && ltb (σ .hsd) (σ .htd) && leb (σ .htd) (σ .htc) && leb (σ .htd - σ .hsd) 132
+
+abbrev pub odd : ℕ → Bool
+odd n = eqb (n % 2) 1
+
+abbrev pub even : ℕ → Bool
+even n = eqb (n % 2) 0
+
+-- "In RFI and IV also VSW, VSD, VAL odd and VTOT even (000), and HTC odd (ours)."
+abbrev pub fitsFields : Settings → Bool
+fitsFields σ = odd (σ .vsw) && odd (σ .vsd) && odd (σ .val) && even (σ .vtot) && odd (σ .htc)
+
+abbrev pub fitsMode : Interlace → Settings → Bool
+fitsMode Progressive σ = true
+fitsMode RepeatField σ = fitsFields σ
+fitsMode Video σ = fitsFields σ
+
+unfoldable pub good : Settings → Bool
+good σ = inRange σ && inOrder σ && fitsMode (σ .interlace) σ
+
+-- what good settings come to, as facts on numbers
+pub record Ordered (σ : Settings) : Type 0 where
+  pub vsw-range : σ .vsw ≤ 63
+  pub vsd-range : σ .vsd ≤ 63
+  pub vtot-range : σ .vtot ≤ 4095
+  pub htc-range : σ .htc ≤ 1023
+  pub vsd-val : σ .vsd < σ .val
+  pub val-vtot : σ .val ≤ σ .vtot
+  pub hsync-htc : σ .hsync < σ .htc
+  pub hsd-htd : σ .hsd < σ .htd
+  pub htd-htc : σ .htd ≤ σ .htc
+  pub columns : σ .htd - σ .hsd ≤ 132

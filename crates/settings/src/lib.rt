@@ -1,0 +1,212 @@
+// The settings of a desk, and the settings sheet: timing, lines for rows, clocks and invoking codes.
+use memory::Refusal;
+ghost use mathlib.Core.Path.{_≡_};
+ghost use Prim.Native.Nat.{_-_, _*_, _≤_};
+ghost use Rattle.settings.specs.Good.{good, inRange, inOrder, fitsFields, fitsMode, Ordered};
+ghost use Rattle.settings.specs.Timing.{halfLines, timing, linesForRows, clocks, invokingCodes};
+ghost use Rattle.settings.specs.Sheet.{sheetOf, sheetCall};
+
+// The interlace mode: none, repeat field (RFI) or video (IV).
+pub enum Interlace {
+    Progressive,
+    RepeatField,
+    Video,
+}
+
+// The two words of a pointer that a register holds.
+pub struct PointerWords {
+    pub first: u16,
+    pub second: u16,
+}
+
+pub struct Settings {
+    pub linear: bool,
+    pub hidden: bool,
+    pub interlace: Interlace,
+    pub cursor: bool,
+    pub flag: u16,
+    pub top: PointerWords,
+    pub tow: PointerWords,
+    pub vsw: u16,
+    pub vsd: u16,
+    pub val: u16,
+    pub vtot: u16,
+    pub hsync: u16,
+    pub hsd: u16,
+    pub htc: u16,
+    pub htd: u16,
+}
+
+// Vertical counts, in half lines.
+pub struct Timing {
+    pub sync: u16,
+    pub back: u16,
+    pub active: u16,
+    pub front: u16,
+    pub field: u16,
+}
+
+// Horizontal counts, in clocks; `rise` and `fall` are those of blank, from the rise of sync.
+pub struct Clocks {
+    pub sync: u16,
+    pub period: u16,
+    pub rise: u16,
+    pub fall: u16,
+}
+
+// What the settings sheet gives: `invoking` codes of the 256 invoke an attribute.
+pub struct Sheet {
+    pub timing: Timing,
+    pub lines: u16,
+    pub clocks: Clocks,
+    pub invoking: u16,
+}
+
+pub enum SheetAnswer {
+    Given(Sheet),
+    Refused(Refusal),
+}
+
+// The settings sheet, or refusal 2.
+pub fn settings_sheet(settings: Settings) -> SheetAnswer
+    ensures { λ r. ⌜ r ≡ sheetCall settings ⌝ }
+{
+    if is_good(settings) {
+        SheetAnswer::Given(sheet_of(settings))
+    } else {
+        SheetAnswer::Refused(Refusal {
+            number: 2,
+            row: 0,
+            address: 0,
+        })
+    }
+}
+
+// Are the settings good? Every test is made (`&`), so there is one way through.
+pub fn is_good(settings: Settings) -> bool
+    ensures { λ r. ⌜ r ≡ good settings ⌝ }
+{
+    in_range(settings) & in_order(settings) & fits_mode(settings)
+}
+
+// The lines for rows.
+pub fn lines_for_rows(settings: Settings) -> u16
+    ensures { λ r. ⌜ r ≡ linesForRows settings ⌝ }
+{
+    let lines = above(settings.vsd, settings.val);
+    let interlace = settings.interlace;
+    match interlace {
+        Interlace::Progressive => lines,
+        Interlace::RepeatField => lines / 2,
+        Interlace::Video => lines,
+    }
+}
+
+// How far `high` is above `low`: 0 where it is below.
+fn above(low: u16, high: u16) -> u16
+    ensures { λ r. ⌜ r ≡ high - low ⌝ }
+{
+    if low < high { high - low } else { 0 }
+}
+
+fn in_range(s: Settings) -> bool
+    ensures { λ r. ⌜ r ≡ inRange s ⌝ }
+{
+    (s.vsw <= 63)
+        & (s.vsd <= 63)
+        & (s.val <= 4095)
+        & (s.vtot <= 4095)
+        & (s.hsync <= 255)
+        & (s.hsd <= 511)
+        & (s.htc <= 1023)
+        & (s.htd <= 1023)
+}
+
+fn in_order(s: Settings) -> bool
+    ensures { λ r. ⌜ r ≡ inOrder s ⌝ }
+{
+    (s.vsd < s.val)
+        & (s.val <= s.vtot)
+        & (s.hsync < s.htc)
+        & (s.hsd < s.htd)
+        & (s.htd <= s.htc)
+        & (above(s.hsd, s.htd) <= 132)
+}
+
+fn fits_mode(s: Settings) -> bool
+    ensures { λ r. ⌜ r ≡ fitsMode (s .interlace) s ⌝ }
+{
+    let interlace = s.interlace;
+    match interlace {
+        Interlace::Progressive => true,
+        Interlace::RepeatField => fits_fields(s),
+        Interlace::Video => fits_fields(s),
+    }
+}
+
+// May two fields be interlaced?
+fn fits_fields(s: Settings) -> bool
+    ensures { λ r. ⌜ r ≡ fitsFields s ⌝ }
+{
+    (s.vsw % 2 == 1) & (s.vsd % 2 == 1) & (s.val % 2 == 1) & (s.vtot % 2 == 0) & (s.htc % 2 == 1)
+}
+
+// The half lines of a count in the timing table: mode none has two for each.
+fn half_lines(interlace: Interlace, lines: u16) -> u16
+    requires { ⌜ lines ≤ 4160 ⌝ }
+    ensures { λ r. ⌜ r ≡ halfLines interlace * lines ⌝ }
+{
+    match interlace {
+        Interlace::Progressive => 2 * lines,
+        Interlace::RepeatField => lines,
+        Interlace::Video => lines,
+    }
+}
+
+fn timing_of(s: Settings) -> Timing
+    requires { ⌜ Ordered s ⌝ }
+    ensures { λ r. ⌜ r ≡ timing s ⌝ }
+{
+    let interlace = s.interlace;
+    Timing {
+        sync: half_lines(interlace, s.vsw + 1),
+        back: half_lines(interlace, s.vsd + 1),
+        active: half_lines(interlace, s.val - s.vsd),
+        front: half_lines(interlace, s.vtot - s.val),
+        field: half_lines(interlace, s.vsw + s.vtot + 2),
+    }
+}
+
+fn clocks_of(s: Settings) -> Clocks
+    requires { ⌜ Ordered s ⌝ }
+    ensures { λ r. ⌜ r ≡ clocks s ⌝ }
+{
+    Clocks {
+        sync: s.hsync + 1,
+        period: s.htc + 1,
+        rise: s.htd + 1,
+        fall: s.hsd + 1,
+    }
+}
+
+// The number of codes that the flag's mask, its high byte, leaves.
+fn invoking_codes(flag: u16) -> u16
+    ensures { λ r. ⌜ r ≡ invokingCodes flag ⌝ }
+{
+    let mask = flag as u32 / 256;
+    (256u32 >> u32::count_ones(mask)) as u16
+}
+
+fn sheet_of(s: Settings) -> Sheet
+    requires { ⌜ Ordered s ⌝ }
+    ensures { λ r. ⌜ r ≡ sheetOf s ⌝ }
+{
+    let timing = timing_of(s);
+    let clocks = clocks_of(s);
+    Sheet {
+        timing,
+        lines: lines_for_rows(s),
+        clocks,
+        invoking: invoking_codes(s.flag),
+    }
+}
