@@ -7,13 +7,13 @@ use lib.ListN.{length}
 use Rattle.memory.specs.Reading.{Outcome, given, refused, run}
 use Rattle.memory.proofs.Related.{Ends, givens, refuseds, run-rel}
 use Rattle.settings.specs.declared.Settings.{Settings}
-use Rattle.row.specs.declared.Fields.{Fields}
-use Rattle.row.specs.declared.State.{State}
+use Rattle.plan.specs.declared.Fields.{Fields}
+use Rattle.plan.specs.declared.State.{State}
 use Rattle.row.specs.declared.RowAnswer.{RowAnswer}
 use Rattle.row.specs.declared.RowAnswer.the-variants.{Accepted, Refused}
-use Rattle.row.specs.State.{stateOf, refusal}
-use Rattle.row.specs.Attribute.{ignores}
-use Rattle.row.specs.Plan.{Plan}
+use Rattle.plan.specs.State.{stateOf, refusal}
+use Rattle.cells.specs.Attribute.{ignores}
+use Rattle.plan.specs.Plan.{Plan}
 use Rattle.row.specs.Row.{Row, row, answered, rowCall}
 use Rattle.row.proofs.Alike.{kept, became, alike, EndAlike, ends, row-alike, Planned, accepts, refusing, row-planned}
 use Rattle.effect.specs.declared.Effect.{Effect}

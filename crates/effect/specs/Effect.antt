@@ -5,8 +5,8 @@ use mathlib.Core.List.{List}
 use Rattle.memory.specs.Word.{if_then_else_}
 use Rattle.memory.specs.Reading.{Outcome, given, refused, run}
 use Rattle.settings.specs.declared.Settings.{Settings}
-use Rattle.row.specs.declared.Fields.{Fields}
-use Rattle.row.specs.State.{stateOf, refusal}
+use Rattle.plan.specs.declared.Fields.{Fields}
+use Rattle.plan.specs.State.{stateOf, refusal}
 use Rattle.row.specs.Row.{Row, row}
 use Rattle.effect.specs.declared.Part.{Part}
 use Rattle.effect.specs.declared.Part.the-variants.{Keep, Set, Refuse}

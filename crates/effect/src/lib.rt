@@ -1,6 +1,6 @@
 // Effects of rows on the latch.
 use memory::Refusal;
-use row::Fields;
+use plan::Fields;
 
 // What a row does to the latch: keep it, set it to a word, or refuse.
 pub enum Part {

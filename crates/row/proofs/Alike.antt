@@ -13,16 +13,18 @@ use Rattle.memory.proofs.Related.{Rel, dones, refuses, asks, if-rel, bind, bind
 use Rattle.settings.specs.declared.Settings.{Settings}
 use Rattle.blocks.specs.declared.FillMode.{FillMode}
 use Rattle.blocks.specs.declared.Segment.{Segment}
-use Rattle.row.specs.declared.Source.{Source}
-use Rattle.row.specs.declared.Source.the-variants.{Background, Window}
-use Rattle.row.specs.declared.AttributeList.{AttributeList}
-use Rattle.row.specs.declared.Fields.{Fields}
-use Rattle.row.specs.State.{stateOf}
-use Rattle.row.specs.Attribute.{invokes, latches, ignores}
-use Rattle.row.specs.Layout.{width, Overlay, none, over, Side, whole, before, after}
-use Rattle.row.specs.Plan.{Plan, plan}
-use Rattle.row.specs.Cells.{Drawing, drawing, noList, listAt, withList, taking, put, character, examine, codes}
-use Rattle.row.specs.Cells.{filled, fillByWord, fillTo, segment, background, cells}
+use Rattle.cells.specs.declared.Source.{Source}
+use Rattle.cells.specs.declared.Source.the-variants.{Background, Window}
+use Rattle.cells.specs.declared.AttributeList.{AttributeList}
+use Rattle.plan.specs.declared.Fields.{Fields}
+use Rattle.plan.specs.State.{stateOf}
+use Rattle.cells.specs.Attribute.{invokes, latches, ignores}
+use Rattle.plan.specs.Layout.{width, Overlay, none, over}
+use Rattle.plan.specs.declared.Side.{Side}
+use Rattle.plan.specs.declared.Side.the-variants.{Whole, Before, After}
+use Rattle.plan.specs.Plan.{Plan, plan}
+use Rattle.cells.specs.Cells.{Drawing, drawing, noList, listAt, withList, taking, put, character, examine, codes}
+use Rattle.cells.specs.Cells.{filled, fillByWord, fillTo, segment, background, cells}
 use Rattle.row.specs.Row.{Row, drawnBy, blank, row}
 
 module _ (l₁ l₂ : ℕ) where
@@ -126,13 +128,13 @@ module _ (l₁ l₂ : ℕ) (same : ignores l₁ ≡ ignores l₂) (σ : Settings
 
     cells-keeps : (o : Overlay) (gs : List Segment) → Keeps l₁ l₂ (cells σ fill o gs)
     unfolding cells
-    cells-keeps none gs d e r = bind (background-keeps whole gs d e r) (fill-keeps 132)
+    cells-keeps none gs d e r = bind (background-keeps Whole gs d e r) (fill-keeps 132)
     cells-keeps (over first end ws) gs d e r =
-        bind (background-keeps (before first) gs d e r) λ d₁ e₁ r₁.
+        bind (background-keeps (Before first) gs d e r) λ d₁ e₁ r₁.
         bind (fill-keeps first d₁ e₁ r₁) λ d₂ e₂ r₂.
         bind (each-rel (segment-keeps Window) ws _ _ (with-list l₁ l₂ noList d₂ e₂ r₂)) λ d₃ e₃ r₃.
         bind (fill-keeps end d₃ e₃ r₃) λ d₄ e₄ r₄.
-        bind (background-keeps (after first end) gs _ _ (list-back l₁ l₂ d₂ e₂ d₄ e₄ r₂ r₄)) (fill-keeps 132)
+        bind (background-keeps (After first end) gs _ _ (list-back l₁ l₂ d₂ e₂ d₄ e₄ r₂ r₄)) (fill-keeps 132)
 
   pub row-alike : (f : Fields) → Rel (EndAlike l₁ l₂) (row σ (stateOf l₁ f)) (row σ (stateOf l₂ f))
   unfolding row

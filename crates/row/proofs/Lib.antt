@@ -1,4 +1,2 @@
-pub mod LayoutLaws
-pub mod RowBounds
 pub mod RowBound
 pub mod Alike

@@ -6,14 +6,24 @@ use Prim.Native.Nat.{ℕ, _<_}
 use native.Mathlib.Omega.{arith}
 use native.Mathlib.Nat.{le-refl}
 use lib.ListN.{length, length-set}
-use lib.Dec.{eqb}
+use lib.Dec.{eqb, lit≤}
 use Rattle.memory.specs.Reading.{Outcome, given, run}
-use Rattle.memory.proofs.ReadBounds.{Words, Within, given-within, refused-within, if-cases, run-reads, reads-given}
+use Rattle.memory.proofs.ReadBounds.{Words, Reads, dones, bind, Within, given-within, refused-within, if-cases, run-reads, reads-given}
 use Rattle.settings.specs.declared.Settings.{Settings}
-use Rattle.row.specs.declared.Fields.{Fields}
-use Rattle.row.specs.declared.State.{State}
-use Rattle.row.specs.Row.{Row, row, withCursor, Called, answered, rowCall}
-use Rattle.row.proofs.RowBounds.{row-reads}
+use Rattle.plan.specs.declared.Fields.{Fields}
+use Rattle.plan.specs.declared.State.{State}
+use Rattle.row.specs.Row.{Row, row, blank, withCursor, Called, answered, rowCall}
+use Rattle.plan.proofs.PlanBounds.{plan-reads}
+use Rattle.cells.proofs.CellBounds.{cells-read}
+
+-- a row: 167 words of blocks, 30 segments of 384, and 3 fill runs
+pub row-reads : (σ : Settings) (s : State) → Reads (λ r. length (r .drawing .cells) ≡ 132) 11690 (row σ s)
+unfolding row
+row-reads σ s =
+    bind {n = 167} {k = 11523} (lit≤ tt) (plan-reads σ (s .fields)) λ p hp.
+    bind {n = 11523} {k = 0} (lit≤ tt)
+    (cells-read σ (s .fields .fill) (p .overlay) (p .segments) (blank (s .latch)) (hp .few) (hp .narrow) (hp .inside) (hp .edges) (refl, refl)) λ d h.
+    dones (omega (arith, h .0, h .1))
 
 -- the cursor's mark adds no cell
 pub cursor-length : (σ : Settings) (f : Fields) (cs : List ℕ) → length (withCursor σ f cs) ≡ length cs

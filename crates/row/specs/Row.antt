@@ -8,14 +8,14 @@ use lib.Bits.{bitOr}
 use Rattle.memory.specs.Word.{if_then_else_}
 use Rattle.memory.specs.Reading.{Reading, done, _>>=_, Outcome, given, refused, run}
 use Rattle.settings.specs.declared.Settings.{Settings}
-use Rattle.row.specs.declared.Pen.{Pen}
-use Rattle.row.specs.declared.Fields.{Fields}
-use Rattle.row.specs.declared.State.{State}
+use Rattle.cells.specs.declared.Pen.{Pen}
+use Rattle.plan.specs.declared.Fields.{Fields}
+use Rattle.plan.specs.declared.State.{State}
 use Rattle.row.specs.declared.RowAnswer.{RowAnswer}
 use Rattle.row.specs.declared.RowAnswer.the-variants.{Accepted, Refused}
-use Rattle.row.specs.State.{stateOf, refusal}
-use Rattle.row.specs.Plan.{Plan, plan}
-use Rattle.row.specs.Cells.{Drawing, drawing, noList, cells}
+use Rattle.plan.specs.State.{stateOf, refusal}
+use Rattle.plan.specs.Plan.{Plan, plan}
+use Rattle.cells.specs.Cells.{Drawing, drawing, noList, cells}
 
 -- what a row comes to: its plan, and its drawing at the end
 pub record Row : Type 0 where

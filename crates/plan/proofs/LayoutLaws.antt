@@ -11,14 +11,16 @@ use Rattle.memory.specs.Word.{if_then_else_}
 use Rattle.memory.proofs.ReadBounds.{if-cases, both}
 use Rattle.blocks.specs.declared.Segment.{Segment}
 use Rattle.blocks.proofs.BlockBounds.{Short}
-use Rattle.row.specs.Layout.{width, total, boundary, covered, whole, before, after, onSide, segmentsOn, Side}
+use Rattle.plan.specs.Layout.{width, total, boundary, covered, onSide, segmentsOn}
+use Rattle.plan.specs.declared.Side.{Side}
+use Rattle.plan.specs.declared.Side.the-variants.{Whole, Before, After}
 
 or-cases : {X : Type 0} (b c : Bool) → b || c ≡ true → (b ≡ true → X) → (c ≡ true → X) → X
 or-cases true c h f g = f refl
 or-cases false c h f g = g h
 
 -- a segment from s of width w that is drawn after a window ends after it
-after-end : (first end s w : ℕ) → onSide (after first end) s w ≡ true → end < s + w
+after-end : (first end s w : ℕ) → onSide (After first end) s w ≡ true → end < s + w
 unfolding onSide covered
 after-end first end s w h =
     let k = both (not (ltb s first)) (not (leb first s && leb (s + w) end)) h in
@@ -26,7 +28,7 @@ after-end first end s w h =
     leb-false (s + w) end (not-true (leb (s + w) end) (rw l at (k .1)))
 
 module _ (hidden : Bool) where
-  pub whole-all : (s : ℕ) (gs : List Segment) → segmentsOn whole hidden s gs ≡ gs
+  pub whole-all : (s : ℕ) (gs : List Segment) → segmentsOn Whole hidden s gs ≡ gs
   unfolding segmentsOn onSide
   whole-all s [] = refl
   whole-all s (g ∷ gs) = rw (whole-all (s + width hidden g) gs)
@@ -59,7 +61,7 @@ module _ (hidden : Bool) where
   clear place gs h = clear-from place 0 gs (λ _. h)
 
   -- the segments before a window end at its first column at the latest
-  pub before-total : (first s : ℕ) (gs : List Segment) → Clear first s gs → s + total hidden (segmentsOn (before first) hidden s gs) ≤ max s first
+  pub before-total : (first s : ℕ) (gs : List Segment) → Clear first s gs → s + total hidden (segmentsOn (Before first) hidden s gs) ≤ max s first
   unfolding segmentsOn onSide total
   before-total first s [] c = omega arith
   before-total first s (g ∷ gs) (c, cs) =
@@ -69,24 +71,24 @@ module _ (hidden : Bool) where
 
   -- where all segments end by a limit, those after a window also do when they are drawn from the window's end on
   pub after-total : (limit first end s : ℕ) (gs : List Segment) → Clear end s gs → max s end ≤ limit → s + total hidden gs ≤ limit
-      → max s end + total hidden (segmentsOn (after first end) hidden s gs) ≤ limit
+      → max s end + total hidden (segmentsOn (After first end) hidden s gs) ≤ limit
   unfolding segmentsOn total
   after-total limit first end s [] c l k = omega arith
   after-total limit first end s (g ∷ gs) (c, cs) l k =
       let w = width hidden g in
       let ih = after-total limit first end (s + w) gs cs (omega arith) (omega arith) in
-      if-cases (λ r. max s end + total hidden r ≤ limit) (onSide (after first end) s w)
+      if-cases (λ r. max s end + total hidden r ≤ limit) (onSide (After first end) s w)
       (λ e. let past : s < end → ⊥ = λ i. omega (arith, c i, after-end first end s w e) in omega arith) (λ _. omega arith)
 
   -- no segment is on both sides of a window
   pub sides-length : (first end s : ℕ) (gs : List Segment)
-      → length (segmentsOn (before first) hidden s gs) + length (segmentsOn (after first end) hidden s gs) ≤ length gs
+      → length (segmentsOn (Before first) hidden s gs) + length (segmentsOn (After first end) hidden s gs) ≤ length gs
   unfolding segmentsOn onSide
   sides-length first end s [] = omega arith
   sides-length first end s (g ∷ gs) =
       let w = width hidden g in
-      let x = segmentsOn (before first) hidden (s + w) gs in
-      let y = segmentsOn (after first end) hidden (s + w) gs in
+      let x = segmentsOn (Before first) hidden (s + w) gs in
+      let y = segmentsOn (After first end) hidden (s + w) gs in
       omega (arith, one (ltb s first) (not (covered first end s w)) x y, sides-length first end (s + w) gs)
     where
       one : (b c : Bool) (x y : List Segment)

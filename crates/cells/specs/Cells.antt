@@ -11,12 +11,14 @@ use Rattle.settings.specs.declared.Settings.{Settings}
 use Rattle.blocks.specs.declared.FillMode.{FillMode}
 use Rattle.blocks.specs.declared.Segment.{Segment}
 use Rattle.blocks.specs.RowBlock.{null}
-use Rattle.row.specs.declared.Source.{Source}
-use Rattle.row.specs.declared.Source.the-variants.{Fill, Background, Window}
-use Rattle.row.specs.declared.AttributeList.{AttributeList}
-use Rattle.row.specs.declared.Pen.{Pen}
-use Rattle.row.specs.Attribute.{invokes, latches, ignores, cell}
-use Rattle.row.specs.Layout.{width, Overlay, none, over, Side, whole, before, after, segmentsOn}
+use Rattle.cells.specs.declared.Source.{Source}
+use Rattle.cells.specs.declared.Source.the-variants.{Fill, Background, Window}
+use Rattle.cells.specs.declared.AttributeList.{AttributeList}
+use Rattle.cells.specs.declared.Pen.{Pen}
+use Rattle.plan.specs.declared.Side.{Side}
+use Rattle.plan.specs.declared.Side.the-variants.{Whole, Before, After}
+use Rattle.cells.specs.Attribute.{invokes, latches, ignores, cell}
+use Rattle.plan.specs.Layout.{width, Overlay, none, over, segmentsOn}
 
 -- a row in the making: where drawing stands, and the cells so far
 pub record Drawing : Type 0 where
@@ -114,11 +116,11 @@ module _ (σ : Settings) (fill : FillMode) where
   -- the middle of the last makes it two." The list in use is "its segment's; the window's last segment's; the last background
   -- segment drawn before it": the window begins with none, and leaves the background's as it was.
   unfoldable pub cells : Overlay → List Segment → Drawing → Reading Drawing
-  cells none gs d = background whole gs d >>= fillTo 132
+  cells none gs d = background Whole gs d >>= fillTo 132
   cells (over first end ws) gs d = do
-    d₁ ← background (before first) gs d
+    d₁ ← background (Before first) gs d
     d₂ ← fillTo first d₁
     d₃ ← each (segment Window) ws (withList noList d₂)
     d₄ ← fillTo end d₃
-    d₅ ← background (after first end) gs (withList (d₂ .pen .list) d₄)
+    d₅ ← background (After first end) gs (withList (d₂ .pen .list) d₄)
     fillTo 132 d₅

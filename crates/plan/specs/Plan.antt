@@ -15,9 +15,9 @@ use Rattle.blocks.specs.declared.WindowInHand.{WindowInHand}
 use Rattle.blocks.specs.declared.WindowInHand.the-variants.{Absent, Present}
 use Rattle.blocks.specs.RowBlock.{RowBlock, rowBlockAt, windowRowAt, redefined}
 use Rattle.blocks.specs.Window.{dueWindow}
-use Rattle.row.specs.declared.Fields.{Fields}
-use Rattle.row.specs.State.{inRange}
-use Rattle.row.specs.Layout.{total, allFit, Overlay, none, over, edgesFit}
+use Rattle.plan.specs.declared.Fields.{Fields}
+use Rattle.plan.specs.State.{inRange}
+use Rattle.plan.specs.Layout.{total, allFit, Overlay, none, over, edgesFit}
 
 -- the window on a row, and the window in hand after it
 pub record Overlaid : Type 0 where
@@ -65,6 +65,29 @@ nextFields f format b window = record {
   window = window;
 }
 
+-- a row's block, and the format that its redefinition makes
+pub record BackgroundRow : Type 0 where
+  pub block : RowBlock
+  pub format : RowFormat
+
+-- "the whole row block, then its redefinition (7), 9, 10"
+unfoldable pub backgroundRow : Settings → Fields → Reading BackgroundRow
+backgroundRow σ f = do
+  b ← rowBlockAt (σ .linear) (f .next)
+  format ← redefined (σ .linear) (b .redefinition) (f .format)
+  check 9 (allFit (b .segments))
+  check 10 (leb (total (σ .hidden) (b .segments)) 132)
+  done (record { block = b; format = format })
+
+abbrev pub planned : Fields → BackgroundRow → Overlaid → Plan
+planned f g o = record {
+  lines = linesTaken (g .format) f;
+  format = g .format;
+  segments = g .block .segments;
+  overlay = o .overlay;
+  next = nextFields f (g .format) (g .block) (o .window);
+}
+
 -- "Row: 1 to 5; a due window (7, 8); the whole row block, then its redefinition (7), 9, 10; window row block (7), 9, 11; 12"
 unfoldable pub plan : Settings → Fields → Reading Plan
 plan σ f = do
@@ -73,16 +96,7 @@ plan σ f = do
   check 4 (ltb 0 (f .left))
   check 5 (ltb (f .row) 4095)
   w ← dueWindow (σ .linear) (f .row) (f .window)
-  b ← rowBlockAt (σ .linear) (f .next)
-  format ← redefined (σ .linear) (b .redefinition) (f .format)
-  check 9 (allFit (b .segments))
-  check 10 (leb (total (σ .hidden) (b .segments)) 132)
+  g ← backgroundRow σ f
   o ← overlaid σ (f .row) w
-  check 12 (edgesFit (σ .hidden) (o .overlay) (b .segments))
-  done (record {
-    lines = linesTaken format f;
-    format = format;
-    segments = b .segments;
-    overlay = o .overlay;
-    next = nextFields f format b (o .window);
-  })
+  check 12 (edgesFit (σ .hidden) (o .overlay) (g .block .segments))
+  done (planned f g o)

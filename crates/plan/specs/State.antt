@@ -7,8 +7,8 @@ use Rattle.blocks.specs.declared.RowFormat.{RowFormat}
 use Rattle.blocks.specs.declared.WindowInHand.{WindowInHand}
 use Rattle.blocks.specs.declared.WindowInHand.the-variants.{Absent, Present}
 use Rattle.blocks.specs.Window.{inOrder}
-use Rattle.row.specs.declared.Fields.{Fields}
-use Rattle.row.specs.declared.State.{State}
+use Rattle.plan.specs.declared.Fields.{Fields}
+use Rattle.plan.specs.declared.State.{State}
 
 -- "The state holds the row number, lines left, latch, cursor, fill, scan lines, row attributes, CURS, CURE, next row block and
 -- the window in hand". The fields other than the latch stand apart: "A row's effect doesn't depend on the state's latch".

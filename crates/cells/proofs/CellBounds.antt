@@ -1,94 +1,34 @@
--- How many words a row reads at most, step by step, and what holds of its plan and its cells.
+-- How many words the cells of a row read at most, and how many cells there are.
 use mathlib.Core.Path.{_≡_, refl}
-use mathlib.Core.Bool.{Bool, true, _&&_, _||_, not}
+use mathlib.Core.Bool.{true, _&&_, _||_, not}
 use mathlib.Core.List.{List, [], _∷_}
 use Prim.Native.Nat.{ℕ, zero, suc, _+_, _-_, _*_, _/_, _≤_, zero-le}
 use native.Mathlib.Omega.{arith}
 use native.Mathlib.Nat.{le-refl}
 use lib.ListN.{length, length-append, length-replicate}
-use lib.Dec.{ltb, leb, lit<, lit≤}
-use borrow.Author.Tests.{ltb-true, ltb-false, leb-true}
+use lib.Dec.{ltb, lit<}
+use borrow.Author.Tests.{ltb-true, ltb-false}
 use Rattle.memory.specs.Word.{if_then_else_, high, low}
 use Rattle.memory.specs.Reading.{_>>=_, each}
 use Rattle.memory.specs.Address.{nextWord}
-use Rattle.memory.proofs.ReadBounds.{Reads, dones, refuses, asks, bind, check-reads, if-cases, if-reads, both}
+use Rattle.memory.proofs.ReadBounds.{Reads, dones, refuses, asks, bind, if-cases, if-reads, both}
 use Rattle.settings.specs.declared.Settings.{Settings}
-use Rattle.settings.specs.Good.{good}
 use Rattle.blocks.specs.declared.FillMode.{FillMode}
 use Rattle.blocks.specs.declared.Segment.{Segment}
-use Rattle.blocks.specs.declared.WindowInHand.{WindowInHand}
-use Rattle.blocks.specs.declared.WindowInHand.the-variants.{Absent, Present}
 use Rattle.blocks.specs.RowBlock.{null}
-use Rattle.blocks.specs.Window.{inOrder}
-use Rattle.blocks.proofs.BlockBounds.{Short, Few, row-block-reads, window-row-reads, redefined-reads, Placed, in-order, due-reads}
-use Rattle.row.specs.declared.Source.{Source}
-use Rattle.row.specs.declared.Source.the-variants.{Background, Window}
-use Rattle.row.specs.declared.Fields.{Fields}
-use Rattle.row.specs.declared.State.{State}
-use Rattle.row.specs.State.{formatInRange, isAddress, windowInRange, inRange}
-use Rattle.row.specs.Attribute.{invokes, latches, ignores, cell}
-use Rattle.row.specs.Layout.{width, total, allFit, boundary, Overlay, none, over, edgesFit, Side, before, after, segmentsOn}
-use Rattle.row.specs.Plan.{windowRow, overlaid, Plan, plan}
-use Rattle.row.specs.Cells.{Drawing, drawing, listAt, noList, withList, taking, put, character, examine, codes}
-use Rattle.row.specs.Cells.{filled, fillByWord, fillTo, segment, background, cells}
-use Rattle.row.specs.Row.{row, blank}
-use Rattle.row.proofs.LayoutLaws.{whole-all, clear, before-total, after-total, sides-length, side-short}
+use Rattle.blocks.proofs.BlockBounds.{Short, Few}
+use Rattle.cells.specs.declared.Source.{Source}
+use Rattle.cells.specs.declared.Source.the-variants.{Background, Window}
+use Rattle.cells.specs.Attribute.{invokes, latches, ignores, cell}
+use Rattle.plan.specs.Layout.{width, total, boundary, Overlay, none, over, edgesFit, segmentsOn}
+use Rattle.plan.specs.declared.Side.{Side}
+use Rattle.plan.specs.declared.Side.the-variants.{Before, After}
+use Rattle.cells.specs.Cells.{Drawing, drawing, listAt, noList, withList, taking, put, character, examine, codes}
+use Rattle.cells.specs.Cells.{filled, fillByWord, fillTo, segment, background, cells}
+use Rattle.plan.proofs.LayoutLaws.{whole-all, clear, before-total, after-total, sides-length, side-short}
+use Rattle.plan.proofs.PlanBounds.{Inside}
 
--- ---- the plan ----
--- an overlay's segments are few, and within its columns
-abbrev pub Inside : Bool → Overlay → Type 0
-Inside hidden none = Unit
-Inside hidden (over first end ws) = Few 15 ws × (first + total hidden ws ≤ end) × (end ≤ 132)
-
--- what the cells need of a plan
-pub record Sound (hidden : Bool) (p : Plan) : Type 0 where
-  pub few : Few 15 (p .segments)
-  pub narrow : total hidden (p .segments) ≤ 132
-  pub inside : Inside hidden (p .overlay)
-  pub edges : edgesFit hidden (p .overlay) (p .segments) ≡ true
-
--- a window of a state in range is in order
-pub window-placed : (w : WindowInHand) → windowInRange w ≡ true → Placed w
-unfolding windowInRange
-window-placed Absent h = tt
-window-placed (Present w) h = in-order w (both (inOrder w) _ (both (inOrder w && isAddress (w .rows)) _ h .0) .0)
-
-pub placed : (f : Fields) → inRange f ≡ true → Placed (f .window)
-unfolding inRange
-placed f h =
-    window-placed (f .window)
-    (both (leb (f .row + f .left) 4095 && formatInRange (f .format) && isAddress (f .next)) (windowInRange (f .window)) h .1)
-
-pub overlaid-reads : (σ : Settings) (row : ℕ) (w : WindowInHand) → Placed w → Reads (λ o. Inside (σ .hidden) (o .overlay)) 78 (overlaid σ row w)
-unfolding overlaid windowRow
-overlaid-reads σ row Absent h = dones tt
-overlaid-reads σ row (Present w) h =
-    if-reads (leb (w .top) row && leb row (w .bottom))
-    (λ _.
-    bind {n = 78} {k = 0} (omega arith) (window-row-reads (σ .linear) (w .rows)) λ b hb.
-    bind {n = 0} {k = 0} (omega arith) (check-reads 9 (allFit (b .segments))) λ _ _.
-    bind {n = 0} {k = 0} (omega arith) (check-reads 11 (leb (total (σ .hidden) (b .segments)) (w .right + 1 - w .left))) λ _ h₁₁.
-    let l = leb-true (total (σ .hidden) (b .segments)) (w .right + 1 - w .left) h₁₁ in
-    dones (hb, omega arith, omega arith))
-    (λ _. dones tt)
-
-pub plan-reads : (σ : Settings) (f : Fields) → Reads (Sound (σ .hidden)) 167 (plan σ f)
-unfolding plan
-plan-reads σ f =
-    bind {n = 0} {k = 167} (omega arith) (check-reads 2 (good σ)) λ _ _.
-    bind {n = 0} {k = 167} (omega arith) (check-reads 3 (inRange f)) λ _ h₃.
-    bind {n = 0} {k = 167} (omega arith) (check-reads 4 (ltb 0 (f .left))) λ _ _.
-    bind {n = 0} {k = 167} (omega arith) (check-reads 5 (ltb (f .row) 4095)) λ _ _.
-    bind {n = 6} {k = 161} (omega arith) (due-reads (σ .linear) (f .row) (f .window) (placed f h₃)) λ w hw.
-    bind {n = 80} {k = 81} (omega arith) (row-block-reads (σ .linear) (f .next)) λ b hb.
-    bind {n = 3} {k = 78} (omega arith) (redefined-reads (σ .linear) (b .redefinition) (f .format)) λ format _.
-    bind {n = 0} {k = 78} (omega arith) (check-reads 9 (allFit (b .segments))) λ _ _.
-    bind {n = 0} {k = 78} (omega arith) (check-reads 10 (leb (total (σ .hidden) (b .segments)) 132)) λ _ h₁₀.
-    bind {n = 78} {k = 0} (omega arith) (overlaid-reads σ (f .row) w hw) λ o ho.
-    bind {n = 0} {k = 0} (omega arith) (check-reads 12 (edgesFit (σ .hidden) (o .overlay) (b .segments))) λ _ h₁₂.
-    dones (record { few = hb; narrow = leb-true (total (σ .hidden) (b .segments)) 132 h₁₀; inside = ho; edges = h₁₂ })
-
--- ---- the cells: as many as the pen's column says ----
+-- as many cells as the pen's column says
 abbrev pub Even : Drawing → Type 0
 Even d = length (d .cells) ≡ d .pen .column
 
@@ -188,20 +128,11 @@ module _ (σ : Settings) (fill : FillMode) where
       let x = before-total hidden first 0 gs (clear hidden first gs (edge .0)) in
       let y = after-total hidden 132 first end 0 gs (clear hidden end gs (edge .1)) (omega arith) (omega arith) in
       let z = sides-length hidden first end 0 gs in
-      let k = 384 * length (segmentsOn (after first end) hidden 0 gs) in
-      bind {k = k + 5763} (omega arith) (side-reads (before first) gs d (few .0) (h .0)) λ d₁ h₁.
+      let k = 384 * length (segmentsOn (After first end) hidden 0 gs) in
+      bind {k = k + 5763} (omega arith) (side-reads (Before first) gs d (few .0) (h .0)) λ d₁ h₁.
       bind {n = 1} {k = k + 5762} (omega arith) (fill-reads first d₁ (h₁ .0, omega arith)) λ d₂ h₂.
       bind {n = 384 * length ws} {k = k + 2} (omega arith)
       (segments-read Window ws (first + total hidden ws) (withList noList d₂) (inside .0 .0) (h₂ .0) (omega arith)) λ d₃ h₃.
       bind {n = 1} {k = k + 1} (omega arith) (fill-reads end d₃ (h₃ .0, omega arith)) λ d₄ h₄.
-      bind {n = k} {k = 1} (omega arith) (side-reads (after first end) gs (withList (d₂ .pen .list) d₄) (few .0) (h₄ .0)) λ d₅ h₅.
+      bind {n = k} {k = 1} (omega arith) (side-reads (After first end) gs (withList (d₂ .pen .list) d₄) (few .0) (h₄ .0)) λ d₅ h₅.
       fill-reads 132 d₅ (h₅ .0, omega arith)
-
--- a row: 167 words of blocks, 30 segments of 384, and 3 fill runs
-pub row-reads : (σ : Settings) (s : State) → Reads (λ r. length (r .drawing .cells) ≡ 132) 11690 (row σ s)
-unfolding row
-row-reads σ s =
-    bind {n = 167} {k = 11523} (lit≤ tt) (plan-reads σ (s .fields)) λ p hp.
-    bind {n = 11523} {k = 0} (lit≤ tt)
-    (cells-read σ (s .fields .fill) (p .overlay) (p .segments) (blank (s .latch)) (hp .few) (hp .narrow) (hp .inside) (hp .edges) (refl, refl)) λ d h.
-    dones (omega (arith, h .0, h .1))

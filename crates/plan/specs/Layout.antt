@@ -6,6 +6,8 @@ use lib.Dec.{ltb, leb, eqb}
 use Rattle.memory.specs.Word.{if_then_else_}
 use Rattle.blocks.specs.declared.Segment.{Segment}
 use Rattle.blocks.specs.RowBlock.{null}
+use Rattle.plan.specs.declared.Side.{Side}
+use Rattle.plan.specs.declared.Side.the-variants.{Whole, Before, After}
 
 -- "Segment width: V, or L with DH. .. With a null code pointer the width is V"
 unfoldable pub width : Bool → Segment → ℕ
@@ -43,16 +45,12 @@ edgesFit hidden (over first end ws) gs = boundary hidden 0 gs first && boundary 
 unfoldable pub covered : ℕ → ℕ → ℕ → ℕ → Bool
 covered first end s w = leb first s && leb (s + w) end
 
--- the background segments of a row without a window; those drawn before a window; those drawn after it
-pub data Side : Type 0 where
-  whole : Side
-  before : (first : ℕ) → Side
-  after : (first end : ℕ) → Side
-
+-- whether a background segment from s of width w is drawn on a side: in a row without a window; before a window, where it begins
+-- before the first column; after it, where it does not and is not covered
 unfoldable pub onSide : Side → ℕ → ℕ → Bool
-onSide whole s w = true
-onSide (before first) s w = ltb s first
-onSide (after first end) s w = not (ltb s first) && not (covered first end s w)
+onSide Whole s w = true
+onSide (Before first) s w = ltb s first
+onSide (After first end) s w = not (ltb s first) && not (covered first end s w)
 
 -- of the segments from the place s on, those on a side
 unfoldable pub segmentsOn : Side → Bool → ℕ → List Segment → List Segment

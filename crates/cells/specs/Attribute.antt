@@ -4,8 +4,8 @@ use mathlib.Core.Bool.{Bool}
 use lib.Dec.{eqb}
 use lib.Bits.{bitAnd}
 use Rattle.memory.specs.Word.{bit, high, low}
-use Rattle.row.specs.declared.Source.{Source}
-use Rattle.row.specs.declared.Source.the-variants.{Fill, Background, Window}
+use Rattle.cells.specs.declared.Source.{Source}
+use Rattle.cells.specs.declared.Source.the-variants.{Fill, Background, Window}
 
 -- "A code invokes an attribute when it equals the value on every bit set in the mask": "mask high byte, value low byte"
 unfoldable pub invokes : ℕ → ℕ → Bool
