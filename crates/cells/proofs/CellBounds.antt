@@ -11,7 +11,7 @@ use borrow.Author.Tests.{ltb-true, ltb-false}
 use Rattle.memory.specs.Word.{if_then_else_, high, low}
 use Rattle.memory.specs.Reading.{_>>=_, each}
 use Rattle.memory.specs.Address.{nextWord}
-use Rattle.memory.proofs.ReadBounds.{Reads, dones, refuses, asks, bind, if-cases, if-reads, both}
+use Rattle.memory.proofs.ReadBounds.{Reads, dones, refuses, asks, weaken, bind, if-cases, if-reads, both}
 use Rattle.settings.specs.declared.Settings.{Settings}
 use Rattle.blocks.specs.declared.FillMode.{FillMode}
 use Rattle.blocks.specs.declared.Segment.{Segment}
@@ -21,11 +21,10 @@ use Rattle.cells.specs.declared.Source.{Source}
 use Rattle.cells.specs.declared.Source.the-variants.{Background, Window}
 use Rattle.cells.specs.Attribute.{invokes, latches, ignores, cell}
 use Rattle.plan.specs.Layout.{width, total, boundary, Overlay, none, over, edgesFit, segmentsOn}
-use Rattle.plan.specs.declared.Side.{Side}
 use Rattle.plan.specs.declared.Side.the-variants.{Before, After}
 use Rattle.cells.specs.Cells.{Drawing, drawing, listAt, noList, withList, taking, put, character, examine, codes}
-use Rattle.cells.specs.Cells.{filled, fillByWord, fillTo, segment, background, cells}
-use Rattle.plan.proofs.LayoutLaws.{whole-all, clear, before-total, after-total, sides-length, side-short}
+use Rattle.cells.specs.Cells.{filled, fillByWord, fillTo, segment, segmentsTo, cells}
+use Rattle.plan.proofs.LayoutLaws.{clear, before-total, after-total, sides-length, side-short}
 use Rattle.plan.proofs.PlanBounds.{Inside}
 
 -- as many cells as the pen's column says
@@ -105,34 +104,30 @@ module _ (σ : Settings) (fill : FillMode) where
       bind {n = 384} {k = 384 * length gs} (omega arith) (segment-reads source g d l h) λ d₁ h₁.
       segments-read source gs end d₁ s (h₁ .0) (omega arith)
 
-  -- the background segments on a side, from the pen's column on
-  pub side-reads : (side : Side) (gs : List Segment) (d : Drawing) → Short gs → Even d
-      → let on = segmentsOn side (σ .hidden) 0 gs in
-      Reads (At (d .pen .column + total (σ .hidden) on)) (384 * length on) (background σ fill side gs d)
-  unfolding background
-  side-reads side gs d s h =
-      let on = segmentsOn side (σ .hidden) 0 gs in
-      segments-read Background on (d .pen .column + total (σ .hidden) on) d (side-short (σ .hidden) side 0 gs s) h refl
+  -- .. and the fill run after them
+  pub segments-to-read : (source : Source) (gs : List Segment) (end : ℕ) (d : Drawing) → Short gs → Even d
+      → d .pen .column + total (σ .hidden) gs ≤ end → Reads (At end) (384 * length gs + 1) (segmentsTo σ fill source gs end d)
+  unfolding segmentsTo
+  segments-to-read source gs end d s h l =
+      bind {n = 384 * length gs} {k = 1} (omega arith)
+      (segments-read source gs (d .pen .column + total (σ .hidden) gs) d s h refl) λ d₁ h₁.
+      fill-reads end d₁ (h₁ .0, omega arith)
 
   pub cells-read : (o : Overlay) (gs : List Segment) (d : Drawing) → Few 15 gs → total (σ .hidden) gs ≤ 132 → Inside (σ .hidden) o
       → edgesFit (σ .hidden) o gs ≡ true → At 0 d → Reads (At 132) 11523 (cells σ fill o gs d)
-  unfolding cells background edgesFit
-  cells-read none gs d few n inside e h =
-      rw (whole-all (σ .hidden) 0 gs)
-      (bind {n = 384 * length gs} {k = 1} (omega arith)
-      (segments-read Background gs (total (σ .hidden) gs) d (few .0) (h .0) (omega arith)) λ d₁ h₁.
-      fill-reads 132 d₁ (h₁ .0, omega arith))
+  unfolding cells edgesFit
+  cells-read none gs d few n inside e h = weaken (omega arith) (segments-to-read Background gs 132 d (few .0) (h .0) (omega arith))
   cells-read (over first end ws) gs d few n inside e h =
       let hidden = σ .hidden in
       let edge = both (boundary hidden 0 gs first) (boundary hidden 0 gs end) e in
+      let before = segmentsOn (Before first) hidden 0 gs in
+      let after = segmentsOn (After first end) hidden 0 gs in
       let x = before-total hidden first 0 gs (clear hidden first gs (edge .0)) in
       let y = after-total hidden 132 first end 0 gs (clear hidden end gs (edge .1)) (omega arith) (omega arith) in
       let z = sides-length hidden first end 0 gs in
-      let k = 384 * length (segmentsOn (After first end) hidden 0 gs) in
-      bind {k = k + 5763} (omega arith) (side-reads (Before first) gs d (few .0) (h .0)) λ d₁ h₁.
-      bind {n = 1} {k = k + 5762} (omega arith) (fill-reads first d₁ (h₁ .0, omega arith)) λ d₂ h₂.
-      bind {n = 384 * length ws} {k = k + 2} (omega arith)
-      (segments-read Window ws (first + total hidden ws) (withList noList d₂) (inside .0 .0) (h₂ .0) (omega arith)) λ d₃ h₃.
-      bind {n = 1} {k = k + 1} (omega arith) (fill-reads end d₃ (h₃ .0, omega arith)) λ d₄ h₄.
-      bind {n = k} {k = 1} (omega arith) (side-reads (After first end) gs (withList (d₂ .pen .list) d₄) (few .0) (h₄ .0)) λ d₅ h₅.
-      fill-reads 132 d₅ (h₅ .0, omega arith)
+      let k = 384 * length after + 1 in
+      bind {n = 384 * length before + 1} {k = k + 5761} (omega arith)
+      (segments-to-read Background before first d (side-short hidden (Before first) 0 gs (few .0)) (h .0) (omega arith)) λ d₁ h₁.
+      bind {n = 5761} {k = k} (omega arith)
+      (weaken (omega arith) (segments-to-read Window ws end (withList noList d₁) (inside .0 .0) (h₁ .0) (omega arith))) λ d₂ h₂.
+      segments-to-read Background after 132 (withList (d₁ .pen .list) d₂) (side-short hidden (After first end) 0 gs (few .0)) (h₂ .0) (omega arith)

@@ -1,7 +1,7 @@
 -- Document 01, "A row, left to right": the walk that makes a row's cells.
 use Prim.Native.Nat.{ℕ, zero, suc, _+_, _-_}
-use mathlib.Core.Bool.{Bool, true, false, _&&_, _||_, not}
-use mathlib.Core.List.{List, [], _∷_, _++_}
+use mathlib.Core.Bool.{Bool, true, _&&_, _||_, not}
+use mathlib.Core.List.{List, _++_}
 use lib.ListN.{replicate}
 use lib.Dec.{ltb}
 use Rattle.memory.specs.Word.{if_then_else_, high, low}
@@ -15,8 +15,7 @@ use Rattle.cells.specs.declared.Source.{Source}
 use Rattle.cells.specs.declared.Source.the-variants.{Fill, Background, Window}
 use Rattle.cells.specs.declared.AttributeList.{AttributeList}
 use Rattle.cells.specs.declared.Pen.{Pen}
-use Rattle.plan.specs.declared.Side.{Side}
-use Rattle.plan.specs.declared.Side.the-variants.{Whole, Before, After}
+use Rattle.plan.specs.declared.Side.the-variants.{Before, After}
 use Rattle.cells.specs.Attribute.{invokes, latches, ignores, cell}
 use Rattle.plan.specs.Layout.{width, Overlay, none, over, segmentsOn}
 
@@ -108,19 +107,16 @@ module _ (σ : Settings) (fill : FillMode) where
     d₁ ← codes σ source end (if null (g .codes) then 0 else g .length) (g .codes) (withList (listAt (g .attributes)) d)
     fillTo end d₁
 
-  -- the background segments of a row on a side of the window
-  unfoldable pub background : Side → List Segment → Drawing → Reading Drawing
-  background side gs d = each (segment Background) (segmentsOn side (σ .hidden) 0 gs) d
+  -- segments one after the other, then the fill run up to a column
+  unfoldable pub segmentsTo : Source → List Segment → ℕ → Drawing → Reading Drawing
+  segmentsTo source gs end d = each (segment source) gs d >>= fillTo end
 
   -- "unfilled cells .. of a window past its segments, and from the row's last segment to cell 131 are fill runs. A window in
   -- the middle of the last makes it two." The list in use is "its segment's; the window's last segment's; the last background
   -- segment drawn before it": the window begins with none, and leaves the background's as it was.
   unfoldable pub cells : Overlay → List Segment → Drawing → Reading Drawing
-  cells none gs d = background Whole gs d >>= fillTo 132
+  cells none gs d = segmentsTo Background gs 132 d
   cells (over first end ws) gs d = do
-    d₁ ← background (Before first) gs d
-    d₂ ← fillTo first d₁
-    d₃ ← each (segment Window) ws (withList noList d₂)
-    d₄ ← fillTo end d₃
-    d₅ ← background (After first end) gs (withList (d₂ .pen .list) d₄)
-    fillTo 132 d₅
+    d₁ ← segmentsTo Background (segmentsOn (Before first) (σ .hidden) 0 gs) first d
+    d₂ ← segmentsTo Window ws end (withList noList d₁)
+    segmentsTo Background (segmentsOn (After first end) (σ .hidden) 0 gs) 132 (withList (d₁ .pen .list) d₂)

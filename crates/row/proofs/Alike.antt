@@ -20,11 +20,9 @@ use Rattle.plan.specs.declared.Fields.{Fields}
 use Rattle.plan.specs.State.{stateOf}
 use Rattle.cells.specs.Attribute.{invokes, latches, ignores}
 use Rattle.plan.specs.Layout.{width, Overlay, none, over}
-use Rattle.plan.specs.declared.Side.{Side}
-use Rattle.plan.specs.declared.Side.the-variants.{Whole, Before, After}
 use Rattle.plan.specs.Plan.{Plan, plan}
 use Rattle.cells.specs.Cells.{Drawing, drawing, noList, listAt, withList, taking, put, character, examine, codes}
-use Rattle.cells.specs.Cells.{filled, fillByWord, fillTo, segment, background, cells}
+use Rattle.cells.specs.Cells.{filled, fillByWord, fillTo, segment, segmentsTo, cells}
 use Rattle.row.specs.Row.{Row, drawnBy, blank, row}
 
 module _ (l₁ l₂ : ℕ) where
@@ -122,19 +120,17 @@ module _ (l₁ l₂ : ℕ) (same : ignores l₁ ≡ ignores l₂) (σ : Settings
         let end = c + width (σ .hidden) g in
         bind (codes-keeps source end _ (g .codes) _ _ (alike c (listAt (g .attributes)) xs ys h)) (fill-keeps end)
 
-    background-keeps : (side : Side) (gs : List Segment) → Keeps l₁ l₂ (background σ fill side gs)
-    unfolding background
-    background-keeps side gs = each-rel (segment-keeps Background) _
+    segments-keep : (source : Source) (gs : List Segment) (end : ℕ) → Keeps l₁ l₂ (segmentsTo σ fill source gs end)
+    unfolding segmentsTo
+    segments-keep source gs end d e r = bind (each-rel (segment-keeps source) gs d e r) (fill-keeps end)
 
     cells-keeps : (o : Overlay) (gs : List Segment) → Keeps l₁ l₂ (cells σ fill o gs)
     unfolding cells
-    cells-keeps none gs d e r = bind (background-keeps Whole gs d e r) (fill-keeps 132)
+    cells-keeps none gs d e r = segments-keep Background gs 132 d e r
     cells-keeps (over first end ws) gs d e r =
-        bind (background-keeps (Before first) gs d e r) λ d₁ e₁ r₁.
-        bind (fill-keeps first d₁ e₁ r₁) λ d₂ e₂ r₂.
-        bind (each-rel (segment-keeps Window) ws _ _ (with-list l₁ l₂ noList d₂ e₂ r₂)) λ d₃ e₃ r₃.
-        bind (fill-keeps end d₃ e₃ r₃) λ d₄ e₄ r₄.
-        bind (background-keeps (After first end) gs _ _ (list-back l₁ l₂ d₂ e₂ d₄ e₄ r₂ r₄)) (fill-keeps 132)
+        bind (segments-keep Background _ first d e r) λ d₁ e₁ r₁.
+        bind (segments-keep Window ws end _ _ (with-list l₁ l₂ noList d₁ e₁ r₁)) λ d₂ e₂ r₂.
+        segments-keep Background _ 132 _ _ (list-back l₁ l₂ d₁ e₁ d₂ e₂ r₁ r₂)
 
   pub row-alike : (f : Fields) → Rel (EndAlike l₁ l₂) (row σ (stateOf l₁ f)) (row σ (stateOf l₂ f))
   unfolding row
