@@ -22,7 +22,7 @@ use Rattle.cells.specs.declared.Source.the-variants.{Background, Window}
 use Rattle.cells.specs.Attribute.{invokes, latches, ignores, cell}
 use Rattle.plan.specs.Layout.{width, total, boundary, Overlay, none, over, edgesFit, segmentsOn}
 use Rattle.plan.specs.declared.Side.the-variants.{Before, After}
-use Rattle.cells.specs.Cells.{Drawing, drawing, listAt, noList, withList, taking, put, character, examine, codes}
+use Rattle.cells.specs.Cells.{Drawing, drawing, listAt, noList, withList, taking, put, character, examine, pair, codes, codeCount}
 use Rattle.cells.specs.Cells.{filled, fillByWord, fillTo, segment, segmentsTo, cells}
 use Rattle.plan.proofs.LayoutLaws.{clear, before-total, after-total, sides-length, side-short}
 use Rattle.plan.proofs.PlanBounds.{Inside}
@@ -43,7 +43,7 @@ unfolding put
 put-at n value c d h e = (simp (length-append, length-replicate) (omega arith), e)
 
 module _ (σ : Settings) where
-  character-inked : (source : Source) (end attribute code : ℕ) (d : Drawing) → Inked end d → Inked end (character σ source end attribute code d)
+  character-inked : (source : Source) (end attribute code : ℕ) (d : Drawing) → Inked end d → Inked end (character (σ .hidden) source end attribute code d)
   unfolding character
   character-inked source end attribute code d h =
       if-cases (Inked end) ((σ .hidden || not (ignores attribute)) && ltb (d .pen .column) end)
@@ -58,6 +58,11 @@ module _ (σ : Settings) where
       (λ _. asks {n = 1} {k = 0} (le-refl 1) λ w _. dones (character-inked source end w code (drawing (taking (σ .linear) w (d .pen)) (d .cells)) h))
       (λ _. dones (character-inked source end (d .pen .latch) code d h))
 
+  pub pair-reads : (source : Source) (end w : ℕ) (d : Drawing) → Inked end d → Reads (Inked end) 2 (pair σ source end w d)
+  unfolding pair
+  pair-reads source end w d h =
+      bind {n = 1} {k = 1} (omega arith) (examine-reads source end (high w) d h) λ d₁ h₁. examine-reads source end (low w) d₁ h₁
+
   -- three words to two codes
   pub codes-read : (source : Source) (end n a : ℕ) (d : Drawing) → Inked end d → Reads (Inked end) ((3 * n + 1) / 2) (codes σ source end n a d)
   unfolding codes _>>=_
@@ -66,23 +71,22 @@ module _ (σ : Settings) where
   codes-read source end (suc (suc n)) a d h =
       let t = (3 * n + 1) / 2 in
       asks {n = (3 * suc (suc n) + 1) / 2} {k = t + 2} (omega arith) λ w _.
-      bind {n = 1} {k = t + 1} (omega arith) (examine-reads source end (high w) d h) λ d₁ h₁.
-      bind {n = 1} {k = t} (omega arith) (examine-reads source end (low w) d₁ h₁) λ d₂ h₂.
-      codes-read source end n (nextWord (σ .linear) a) d₂ h₂
+      bind {n = 2} {k = t} (omega arith) (pair-reads source end w d h) λ d₁ h₁.
+      codes-read source end n (nextWord (σ .linear) a) d₁ h₁
+
+filled-at : (fill : FillMode) (end : ℕ) (d : Drawing) → Inked end d → At end (filled fill end d)
+unfolding filled
+filled-at fill end d h = put-at (end - d .pen .column) _ end d (h .0) (omega arith)
 
 module _ (σ : Settings) (fill : FillMode) where
-  filled-at : (end : ℕ) (d : Drawing) → Inked end d → At end (filled σ fill end d)
-  unfolding filled
-  filled-at end d h = put-at (end - d .pen .column) _ end d (h .0) (omega arith)
-
   pub fill-reads : (end : ℕ) (d : Drawing) → Inked end d → Reads (At end) 1 (fillTo σ fill end d)
   unfolding fillTo fillByWord _>>=_ taking
   fill-reads end d h =
       if-reads (ltb (d .pen .column) end)
       (λ _. if-reads (fill .flag && d .pen .list .present)
       (λ _. asks {n = 1} {k = 0} (le-refl 1) λ w _.
-      if-reads (latches w) (λ _. dones (filled-at end (drawing (taking (σ .linear) w (d .pen)) (d .cells)) h)) (λ _. refuses))
-      (λ _. dones (filled-at end d h)))
+      if-reads (latches w) (λ _. dones (filled-at fill end (drawing (taking (σ .linear) w (d .pen)) (d .cells)) h)) (λ _. refuses))
+      (λ _. dones (filled-at fill end d h)))
       (λ e. dones (h .0, omega (arith, ltb-false (d .pen .column) end e)))
 
   pub segment-reads : (source : Source) (g : Segment) (d : Drawing) → g .length ≤ 255 → Even d
@@ -90,7 +94,7 @@ module _ (σ : Settings) (fill : FillMode) where
   unfolding segment
   segment-reads source g d l h =
       let end = d .pen .column + width (σ .hidden) g in
-      let count = if null (g .codes) then 0 else g .length in
+      let count = codeCount g in
       let k : count ≤ 255 = if-cases (λ n. n ≤ 255) (null (g .codes)) (λ _. zero-le) (λ _. l) in
       bind {n = (3 * count + 1) / 2} {k = 1} (omega arith)
       (codes-read σ source end count (g .codes) (withList (listAt (g .attributes)) d) (h, omega arith)) (fill-reads end)

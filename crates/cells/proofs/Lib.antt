@@ -1,1 +1,2 @@
 pub mod CellBounds
+pub mod CellLaws

@@ -34,8 +34,15 @@ listAt a = record { present = not (null a); next = a }
 abbrev pub noList : AttributeList
 noList = listAt 0
 
+-- the pen with another list in use, and at another column
+abbrev pub usingList : AttributeList → Pen → Pen
+usingList l p = record { column = p .column; latch = p .latch; latched = p .latched; list = l }
+
+abbrev pub movedTo : ℕ → Pen → Pen
+movedTo column p = record { column = column; latch = p .latch; latched = p .latched; list = p .list }
+
 abbrev pub withList : AttributeList → Drawing → Drawing
-withList l d = drawing (record { column = d .pen .column; latch = d .pen .latch; latched = d .pen .latched; list = l }) (d .cells)
+withList l d = drawing (usingList l (d .pen)) (d .cells)
 
 -- the pen once it has taken the word w of its list: "Bit 15 makes the word the latch"
 unfoldable pub taking : Bool → ℕ → Pen → Pen
@@ -48,24 +55,26 @@ taking linear w p = record {
 
 -- n cells of one value more
 unfoldable pub put : ℕ → ℕ → Drawing → Drawing
-put n value d =
-    drawing (record { column = d .pen .column + n; latch = d .pen .latch; latched = d .pen .latched; list = d .pen .list })
-    (d .cells ++ replicate n value)
+put n value d = drawing (movedTo (d .pen .column + n) (d .pen)) (d .cells ++ replicate n value)
+
+-- "ignore .. keeps the character out of the row unless DH is set"; "those with no room left are dropped"
+unfoldable pub character : Bool → Source → ℕ → ℕ → ℕ → Drawing → Drawing
+character hidden source end attribute code d =
+    if (hidden || not (ignores attribute)) && ltb (d .pen .column) end then put 1 (cell source attribute code) d else d
 
 module _ (σ : Settings) where
-  -- "ignore .. keeps the character out of the row unless DH is set"; "those with no room left are dropped"
-  unfoldable pub character : Source → ℕ → ℕ → ℕ → Drawing → Drawing
-  character source end attribute code d =
-      if (σ .hidden || not (ignores attribute)) && ltb (d .pen .column) end then put 1 (cell source attribute code) d else d
-
   -- "A code invokes an attribute when .. its segment's attribute pointer is not null (ours). It takes the next word of that
   -- segment's list. Bit 15 makes the word the latch; otherwise it holds for that character only. A code that invokes none has
   -- the latch."
   unfoldable pub examine : Source → ℕ → ℕ → Drawing → Reading Drawing
   examine source end code d =
       if invokes (σ .flag) code && d .pen .list .present
-      then (word (d .pen .list .next) >>= λ w. done (character source end w code (drawing (taking (σ .linear) w (d .pen)) (d .cells))))
-      else done (character source end (d .pen .latch) code d)
+      then (word (d .pen .list .next) >>= λ w. done (character (σ .hidden) source end w code (drawing (taking (σ .linear) w (d .pen)) (d .cells))))
+      else done (character (σ .hidden) source end (d .pen .latch) code d)
+
+  -- "high byte of a word first"
+  unfoldable pub pair : Source → ℕ → ℕ → Drawing → Reading Drawing
+  pair source end w d = examine source end (high w) d >>= examine source end (low w)
 
   -- "All L codes are examined, high byte of a word first, ceil(L/2) words"
   unfoldable pub codes : Source → ℕ → ℕ → ℕ → Drawing → Reading Drawing
@@ -75,21 +84,24 @@ module _ (σ : Settings) where
     examine source end (high w) d
   codes source end (suc (suc n)) a d = do
     w ← word a
-    d₁ ← examine source end (high w) d
-    d₂ ← examine source end (low w) d₁
-    codes source end n (nextWord (σ .linear) a) d₂
+    d₁ ← pair source end w d
+    codes source end n (nextWord (σ .linear) a) d₁
+
+-- "With a null code pointer .. L has no meaning and no code is read."
+abbrev pub codeCount : Segment → ℕ
+codeCount g = if null (g .codes) then 0 else g .length
+
+-- the cells up to a column have the fill code and the latch: "Fill is never ignored."
+unfoldable pub filled : FillMode → ℕ → Drawing → Drawing
+filled fill end d = put (end - d .pen .column) (cell Fill (d .pen .latch) (fill .code)) d
 
 module _ (σ : Settings) (fill : FillMode) where
-  -- the cells up to a column have the fill code and the latch: "Fill is never ignored."
-  unfoldable pub filled : ℕ → Drawing → Drawing
-  filled end d = put (end - d .pen .column) (cell Fill (d .pen .latch) (fill .code)) d
-
   -- a run that takes a word, "which must have bit 15 and becomes the latch"; refusal 13: "fill word without bit 15"
   unfoldable pub fillByWord : ℕ → Drawing → Reading Drawing
   fillByWord end d = do
     w ← word (d .pen .list .next)
     if latches w
-        then done (filled end (drawing (taking (σ .linear) w (d .pen)) (d .cells)))
+        then done (filled fill end (drawing (taking (σ .linear) w (d .pen)) (d .cells)))
         else refuse 13 (d .pen .list .next)
 
   -- a fill run up to a column: "A run of no cells does nothing. With the fill flag each run first takes the next word of the
@@ -97,14 +109,14 @@ module _ (σ : Settings) (fill : FillMode) where
   unfoldable pub fillTo : ℕ → Drawing → Reading Drawing
   fillTo end d =
       if ltb (d .pen .column) end
-      then (if fill .flag && d .pen .list .present then fillByWord end d else done (filled end d))
+      then (if fill .flag && d .pen .list .present then fillByWord end d else done (filled fill end d))
       else done d
 
-  -- "Fill: unfilled cells of a segment .. are fill runs." "With a null code pointer .. no code is read."
+  -- "Fill: unfilled cells of a segment .. are fill runs."
   unfoldable pub segment : Source → Segment → Drawing → Reading Drawing
   segment source g d = do
     let end = d .pen .column + width (σ .hidden) g
-    d₁ ← codes σ source end (if null (g .codes) then 0 else g .length) (g .codes) (withList (listAt (g .attributes)) d)
+    d₁ ← codes σ source end (codeCount g) (g .codes) (withList (listAt (g .attributes)) d)
     fillTo end d₁
 
   -- segments one after the other, then the fill run up to a column

@@ -2,7 +2,10 @@
 use blocks::Cursor;
 use blocks::FillMode;
 use blocks::RowFormat;
+use blocks::Segment;
 use blocks::WindowInHand;
+ghost use mathlib.Core.Path.{_≡_};
+ghost use Rattle.plan.specs.Layout.{width};
 
 // The state's fields other than the latch: row number, lines left, cursor, fill, format (scan lines, row attributes, CURS,
 // CURE), next row block and the window in hand.
@@ -27,4 +30,15 @@ pub enum Side {
     Whole,
     Before(usize),
     After(usize, usize),
+}
+
+// The width of a segment.
+pub fn width(hidden: bool, g: Segment) -> usize
+    ensures { λ r. ⌜ r ≡ width hidden g ⌝ }
+{
+    if hidden & (g.codes != 0) {
+        g.length as usize
+    } else {
+        g.visible as usize
+    }
 }

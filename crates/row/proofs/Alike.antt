@@ -21,7 +21,7 @@ use Rattle.plan.specs.State.{stateOf}
 use Rattle.cells.specs.Attribute.{invokes, latches, ignores}
 use Rattle.plan.specs.Layout.{width, Overlay, none, over}
 use Rattle.plan.specs.Plan.{Plan, plan}
-use Rattle.cells.specs.Cells.{Drawing, drawing, noList, listAt, withList, taking, put, character, examine, codes}
+use Rattle.cells.specs.Cells.{Drawing, drawing, noList, listAt, withList, taking, put, character, examine, pair, codes}
 use Rattle.cells.specs.Cells.{filled, fillByWord, fillTo, segment, segmentsTo, cells}
 use Rattle.row.specs.Row.{Row, drawnBy, blank, row}
 
@@ -74,7 +74,7 @@ module _ (l₁ l₂ : ℕ) (same : ignores l₁ ≡ ignores l₂) (σ : Settings
   held-ignores (became w) = refl
 
   character-alike : (source : Source) (end x y code : ℕ) → ignores x ≡ ignores y → (d e : Drawing) → Alike l₁ l₂ d e
-      → Alike l₁ l₂ (character σ source end x code d) (character σ source end y code e)
+      → Alike l₁ l₂ (character (σ .hidden) source end x code d) (character (σ .hidden) source end y code e)
   unfolding character
   character-alike source end x y code i d e (alike c u xs ys h) =
       let r = alike c u xs ys h in
@@ -88,16 +88,19 @@ module _ (l₁ l₂ : ℕ) (same : ignores l₁ ≡ ignores l₂) (σ : Settings
       (asks λ w. dones (character-alike source end w w code refl _ _ (taking-alike l₁ l₂ (σ .linear) w _ _ r)))
       (dones (character-alike source end _ _ code (held-ignores h) _ _ r))
 
+  pair-keeps : (source : Source) (end w : ℕ) → Keeps l₁ l₂ (pair σ source end w)
+  unfolding pair
+  pair-keeps source end w d e r = bind (examine-keeps source end (high w) d e r) (examine-keeps source end (low w))
+
   codes-keeps : (source : Source) (end n a : ℕ) → Keeps l₁ l₂ (codes σ source end n a)
   unfolding codes _>>=_
   codes-keeps source end zero a d e r = dones r
   codes-keeps source end (suc zero) a d e r = asks λ w. examine-keeps source end (high w) d e r
   codes-keeps source end (suc (suc n)) a d e r =
-      asks λ w. bind (examine-keeps source end (high w) d e r) λ d₁ e₁ r₁.
-      bind (examine-keeps source end (low w) d₁ e₁ r₁) (codes-keeps source end n (nextWord (σ .linear) a))
+      asks λ w. bind (pair-keeps source end w d e r) (codes-keeps source end n (nextWord (σ .linear) a))
 
   module _ (fill : FillMode) where
-    filled-alike : (end : ℕ) (d e : Drawing) → Alike l₁ l₂ d e → Alike l₁ l₂ (filled σ fill end d) (filled σ fill end e)
+    filled-alike : (end : ℕ) (d e : Drawing) → Alike l₁ l₂ d e → Alike l₁ l₂ (filled fill end d) (filled fill end e)
     unfolding filled
     filled-alike end d e (alike c u xs ys h) = put-alike l₁ l₂ (end - c) _ _ _ _ (alike c u xs ys h)
 

@@ -1,0 +1,159 @@
+-- The laws by which a proof follows the drawing of a segment: one for each way through a definition.
+use mathlib.Core.Path.{_≡_, refl, ap, ap₂, sym, _∙_}
+use mathlib.Core.List.{List, [], _∷_, _++_, append-assoc, append-nil}
+use mathlib.Core.Bool.{Bool, true, false, _&&_, _||_, not}
+use Prim.Native.Nat.{ℕ, suc, _+_, _-_, _<_, _≤_, zero-le}
+use native.Mathlib.Omega.{arith}
+use native.Mathlib.Nat.{sub-self}
+use lib.ListN.{length, take, set, replicate, replicate-append-replicate}
+use lib.Dec.{ltb}
+use borrow.Author.Tests.{ltb-true, lt-ltb, le-ltb}
+use Rattle.memory.specs.declared.Fetch.the-variants.{Word, Absent}
+use Rattle.memory.specs.Word.{high, low}
+use Rattle.memory.specs.Reading.{Reading, done, refuse, ask, _>>=_, fetch, given, refused, runFrom}
+use Rattle.memory.specs.Address.{nextWord}
+use Rattle.memory.proofs.Laws.{bind-given, bind-refused, run-done, run-refuse, ask-word, ask-absent}
+use Rattle.memory.proofs.ListLaws.{take-next}
+use Rattle.memory.proofs.ReadBounds.{both}
+use Rattle.settings.specs.declared.Settings.{Settings}
+use Rattle.blocks.specs.declared.FillMode.{FillMode}
+use Rattle.cells.specs.declared.Source.{Source}
+use Rattle.cells.specs.declared.Source.the-variants.{Fill}
+use Rattle.cells.specs.declared.Pen.{Pen}
+use Rattle.cells.specs.declared.Drawn.{Drawn}
+use Rattle.cells.specs.declared.Drawn.the-variants.{Went, Refused}
+use Rattle.cells.specs.Attribute.{invokes, latches, ignores, cell}
+use Rattle.cells.specs.Cells.{Drawing, drawing, movedTo, taking, put, character, examine, pair, codes, filled, fillByWord, fillTo}
+use Rattle.cells.specs.Drawn.{soFar, Within, Reached}
+
+-- ---- cells in an array ----
+
+-- one cell more at the pen's column, or none
+module _ (hidden : Bool) (source : Source) (end a code : ℕ) (p : Pen) (cs : List ℕ) where
+  pub character-put : (hidden || not (ignores a)) && ltb (p .column) end ≡ true → end ≤ length cs
+      → soFar (movedTo (p .column + 1) p) (set cs (p .column) (cell source a code)) ≡ character hidden source end a code (soFar p cs)
+  unfolding character put
+  character-put h l =
+      let k : p .column < length cs = omega (arith, ltb-true (p .column) end (both (hidden || not (ignores a)) (ltb (p .column) end) h .1)) in
+      rw h (ap (drawing (movedTo (p .column + 1) p)) (take-next cs (p .column) (cell source a code) k))
+
+  pub character-out : (hidden || not (ignores a)) && ltb (p .column) end ≡ false → soFar p cs ≡ character hidden source end a code (soFar p cs)
+  unfolding character
+  character-out h = rw h
+
+-- a run of equal cells: none, one more, and a run as a fill
+pub run-none : (k : List ℕ) (a v : ℕ) → k ≡ k ++ replicate (a - a) v
+run-none k a v = rw (sub-self a) (sym (append-nil k))
+
+pub run-more : (l k : List ℕ) (a i v : ℕ) → a ≤ i → i < length l → take i l ≡ k ++ replicate (i - a) v
+    → take (i + 1) (set l i v) ≡ k ++ replicate (i + 1 - a) v
+run-more l k a i v h g e =
+    let n : i + 1 - a ≡ i - a + 1 = omega arith in
+    take-next l i v g ∙ rw (e, append-assoc, replicate-append-replicate (i - a) 1 v, n)
+
+pub filled-run : (fill : FillMode) (end : ℕ) (p : Pen) (cs cs′ : List ℕ) → p .column ≤ end
+    → take end cs′ ≡ take (p .column) cs ++ replicate (end - p .column) (cell Fill (p .latch) (fill .code))
+    → soFar (movedTo end p) cs′ ≡ filled fill end (soFar p cs)
+unfolding filled put
+filled-run fill end p cs cs′ l e =
+    let k : end ≡ p .column + (end - p .column) = omega arith in
+    ap₂ (λ (c : ℕ) (xs : List ℕ). drawing (movedTo c p) xs) k e
+
+-- ---- answers ----
+pub within-more : (end k l : ℕ) (r : Drawn) → Within end k r → k ≤ l → Within end l r
+within-more end k l (Went p n) h i = (h .0, omega arith)
+within-more end k l (Refused n a) h i = (zero-le, zero-le)
+
+pub reached-more : (end k l : ℕ) (r : Drawn) → Reached end k r → k ≤ l → Reached end l r
+reached-more end k l (Went p n) h i = (h .0, omega arith)
+reached-more end k l (Refused n a) h i = (zero-le, zero-le)
+
+-- ---- codes ----
+module _ (n : ℕ) (m : List ℕ) (σ : Settings) (source : Source) (end : ℕ) where
+  module _ (code : ℕ) (d : Drawing) where
+    pub examine-word : (x : ℕ) → invokes (σ .flag) code && d .pen .list .present ≡ true → fetch m (d .pen .list .next) ≡ Word x
+        → runFrom n m (examine σ source end code d)
+        ≡ given (n + 1) (character (σ .hidden) source end x code (drawing (taking (σ .linear) x (d .pen)) (d .cells)))
+    unfolding examine _>>=_
+    examine-word x t e = rw t (ask-word n m (d .pen .list .next) _ x e ∙ run-done _ _ _)
+
+    pub examine-absent : invokes (σ .flag) code && d .pen .list .present ≡ true → fetch m (d .pen .list .next) ≡ Absent
+        → runFrom n m (examine σ source end code d) ≡ refused 7 (d .pen .list .next)
+    unfolding examine _>>=_
+    examine-absent t e = rw t (ask-absent n m (d .pen .list .next) _ e)
+
+    pub examine-latch : invokes (σ .flag) code && d .pen .list .present ≡ false
+        → runFrom n m (examine σ source end code d) ≡ given n (character (σ .hidden) source end (d .pen .latch) code d)
+    unfolding examine
+    examine-latch t = rw t (run-done _ _ _)
+
+  module _ (w : ℕ) (d : Drawing) where
+    pub pair-refused : {i at : ℕ} → runFrom n m (examine σ source end (high w) d) ≡ refused i at → runFrom n m (pair σ source end w d) ≡ refused i at
+    unfolding pair
+    pair-refused e = bind-refused n m _ _ e
+
+    pub pair-given : {i : ℕ} {b : Drawing} → runFrom n m (examine σ source end (high w) d) ≡ given i b
+        → runFrom n m (pair σ source end w d) ≡ runFrom i m (examine σ source end (low w) b)
+    unfolding pair
+    pair-given e = bind-given n m _ _ e
+
+  module _ (a : ℕ) (d : Drawing) where
+    pub last-word : (x : ℕ) → fetch m a ≡ Word x → runFrom n m (codes σ source end 1 a d) ≡ runFrom (n + 1) m (examine σ source end (high x) d)
+    unfolding codes _>>=_
+    last-word x e = ask-word n m a _ x e
+
+    pub last-absent : fetch m a ≡ Absent → runFrom n m (codes σ source end 1 a d) ≡ refused 7 a
+    unfolding codes _>>=_
+    last-absent e = ask-absent n m a _ e
+
+  module _ (left a : ℕ) (d : Drawing) where
+    pub codes-none : left ≡ 0 → runFrom n m (codes σ source end left a d) ≡ given n d
+    unfolding codes
+    codes-none h = ap (λ (i : ℕ). runFrom n m (codes σ source end i a d)) h ∙ run-done _ _ _
+
+    two-more : 1 < left → codes σ source end left a d ≡ ask a (λ w. pair σ source end w d >>= codes σ source end (left - 2) (nextWord (σ .linear) a))
+    unfolding codes _>>=_
+    two-more h =
+        let e : left ≡ suc (suc (left - 2)) = omega arith in
+        ap (λ (i : ℕ). codes σ source end i a d) e
+
+    pub codes-absent : 1 < left → fetch m a ≡ Absent → runFrom n m (codes σ source end left a d) ≡ refused 7 a
+    codes-absent h e = ap (runFrom n m) (two-more h) ∙ ask-absent n m a _ e
+
+    pub codes-refused : {x i at : ℕ} → 1 < left → fetch m a ≡ Word x → runFrom (n + 1) m (pair σ source end x d) ≡ refused i at
+        → runFrom n m (codes σ source end left a d) ≡ refused i at
+    codes-refused h e r = ap (runFrom n m) (two-more h) ∙ ask-word n m a _ _ e ∙ bind-refused _ m _ _ r
+
+    pub codes-more : {x i : ℕ} {b : Drawing} → 1 < left → fetch m a ≡ Word x → runFrom (n + 1) m (pair σ source end x d) ≡ given i b
+        → runFrom n m (codes σ source end left a d) ≡ runFrom i m (codes σ source end (left - 2) (nextWord (σ .linear) a) b)
+    codes-more h e r = ap (runFrom n m) (two-more h) ∙ ask-word n m a _ _ e ∙ bind-given _ m _ _ r
+
+-- ---- fill runs ----
+module _ (n : ℕ) (m : List ℕ) (σ : Settings) (fill : FillMode) (end : ℕ) (d : Drawing) where
+  pub fill-word : (x : ℕ) → fetch m (d .pen .list .next) ≡ Word x → latches x ≡ true
+      → runFrom n m (fillByWord σ fill end d) ≡ given (n + 1) (filled fill end (drawing (taking (σ .linear) x (d .pen)) (d .cells)))
+  unfolding fillByWord _>>=_
+  fill-word x e h = ask-word n m (d .pen .list .next) _ x e ∙ rw h (run-done _ _ _)
+
+  pub fill-unlatched : (x : ℕ) → fetch m (d .pen .list .next) ≡ Word x → latches x ≡ false
+      → runFrom n m (fillByWord σ fill end d) ≡ refused 13 (d .pen .list .next)
+  unfolding fillByWord _>>=_
+  fill-unlatched x e h = ask-word n m (d .pen .list .next) _ x e ∙ rw h (run-refuse _ _ _ _)
+
+  pub fill-absent : fetch m (d .pen .list .next) ≡ Absent → runFrom n m (fillByWord σ fill end d) ≡ refused 7 (d .pen .list .next)
+  unfolding fillByWord _>>=_
+  fill-absent e = ask-absent n m (d .pen .list .next) _ e
+
+  pub fill-by-word : d .pen .column < end → fill .flag && d .pen .list .present ≡ true
+      → runFrom n m (fillTo σ fill end d) ≡ runFrom n m (fillByWord σ fill end d)
+  unfolding fillTo
+  fill-by-word l h = rw (lt-ltb (d .pen .column) end l, h)
+
+  pub fill-plain : d .pen .column < end → fill .flag && d .pen .list .present ≡ false
+      → runFrom n m (fillTo σ fill end d) ≡ given n (filled fill end d)
+  unfolding fillTo
+  fill-plain l h = rw (lt-ltb (d .pen .column) end l, h) (run-done _ _ _)
+
+  pub fill-none : end ≤ d .pen .column → runFrom n m (fillTo σ fill end d) ≡ given n d
+  unfolding fillTo
+  fill-none l = rw (le-ltb (d .pen .column) end l) (run-done _ _ _)
