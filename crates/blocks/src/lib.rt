@@ -288,7 +288,7 @@ fn segment_count(w: u16) -> u8
     (w % 16) as u8
 }
 
-// The window whose block is at `a`, none where that is null; its first row may be `least`.
+// The window whose block is at `a`, none where that is null; its first row is `least` or a later one.
 fn window_at(mem: &[u16], linear: bool, least: u16, a: u32) -> WindowRead
     ensures { λ r. ⌜ windowRead r ≡ run (now (mem .entry)) (windowAt linear least a) ⌝ }
 {
@@ -321,7 +321,7 @@ fn window_at(mem: &[u16], linear: bool, least: u16, a: u32) -> WindowRead
     }
 }
 
-// Is the window in order, its first row not above `least`?
+// Is the window in order, and its first row `least` or a later one?
 fn may_follow(least: u16, w: Window) -> bool
     ensures { λ r. ⌜ r ≡ inOrder w && leb least (w .top) ⌝ }
 {

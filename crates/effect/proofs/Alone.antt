@@ -162,5 +162,6 @@ demand-3 = record {
   grouping = join-assoc;
   emptyBefore = empty-join;
   emptyAfter = join-empty;
+  emptyApplied = apply-empty;
   rows = λ σ m s calls. in-turn σ m (s .latch) calls (s .fields) empty s (goes (apply-empty (s .latch)));
 }

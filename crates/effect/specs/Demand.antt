@@ -89,5 +89,6 @@ pub record Demand3 : Type 0 where
   pub grouping : (a b c : Effect) → join (join a b) c ≡ join a (join b c)
   pub emptyBefore : (e : Effect) → join empty e ≡ e
   pub emptyAfter : (e : Effect) → join e empty ≡ e
+  pub emptyApplied : (latch : ℕ) → apply empty latch ≡ Latch latch
   pub rows : (σ : Settings) (m : List ℕ) (s : State) (calls : List Call)
       → inTurn σ m s calls ≡ drawnAlone σ m (s .latch) (s .fields) empty calls

@@ -11,9 +11,11 @@ use Rattle.memory.specs.Address.{pointer, nextWord, ahead, words}
 use Rattle.settings.specs.declared.Interlace.{Interlace}
 use Rattle.settings.specs.declared.Interlace.the-variants.{Progressive, RepeatField, Video}
 use Rattle.settings.specs.declared.Settings.{Settings}
-use Rattle.settings.specs.declared.Timing.{Timing}
+use Rattle.settings.specs.declared.SheetAnswer.{SheetAnswer}
+use Rattle.settings.specs.declared.SheetAnswer.the-variants as Sheet
 use Rattle.settings.specs.Good.{inRange, inOrder, fitsFields, fitsMode, good}
-use Rattle.settings.specs.Timing.{halfLines, timing, linesIn, linesForRows, halved, invokingCodes}
+use Rattle.settings.specs.Sheet.{sheetOf, sheetCall}
+use Rattle.settings.specs.Timing.{clocks, halfLines, timing, linesIn, linesForRows, halved, invokingCodes}
 use Rattle.blocks.specs.declared.WindowInHand.{WindowInHand}
 use Rattle.blocks.specs.declared.WindowInHand.the-variants.{Absent, Present}
 use Rattle.blocks.specs.Main.{mainBlock, mainBlockAt}
@@ -65,8 +67,10 @@ partShown Keep = []
 partShown (Set w) = w ∷ []
 partShown (Refuse r) = r .number ∷ r .row ∷ r .address ∷ []
 
-times : Timing → List ℕ
-times t = t .sync ∷ t .back ∷ t .active ∷ t .front ∷ t .field ∷ []
+-- the vertical counts of a settings sheet; a refused sheet's number
+times : SheetAnswer → List ℕ
+times (Sheet.Given s) = s .timing .sync ∷ s .timing .back ∷ s .timing .active ∷ s .timing .front ∷ s .timing .field ∷ []
+times (Sheet.Refused r) = r .number ∷ []
 
 -- ---- settings, states and memory ----
 settings : Bool → Bool → ℕ → Settings
@@ -219,10 +223,12 @@ tests =
     ∷ same (shown row0) (0 ∷ 8 ∷ 0 ∷ 0 ∷ 31 ∷ 12 ∷ 0x100041 ∷ 0x500042 ∷ 0x100281 ∷ replicate 129 0x220)
     -- P6
     ∷ same (shown row1) (1 ∷ 8 ∷ 0 ∷ 0 ∷ 31 ∷ 3 ∷ replicate 132 0x220)
+    -- S has two rows: then no lines are left
+    ∷ same (shown (rowCall sheetS memoryS (stateAfter (row1 .answer)) buffer)) (4 ∷ 2 ∷ 0 ∷ [])
     -- P7
-    ∷ same (times (timing sheetS)) (2 ∷ 2 ∷ 32 ∷ 8 ∷ 44 ∷ [])
+    ∷ same (times (sheetCall sheetS)) (2 ∷ 2 ∷ 32 ∷ 8 ∷ 44 ∷ [])
     -- P8
-    ∷ same (times (timing video)) (6 ∷ 34 ∷ 480 ∷ 5 ∷ 525 ∷ [])
+    ∷ same (times (sheetCall video)) (6 ∷ 34 ∷ 480 ∷ 5 ∷ 525 ∷ [])
     -- P9
     ∷ same (cellsFrom 0 2 (firstRow plain nine)) (0x100041 ∷ 0x20 ∷ [])
     ∷ same (cellsFrom 0 3 (firstRow (settings true false 0x8080) nine)) (0x100041 ∷ 0x100080 ∷ 0x100042 ∷ [])
@@ -247,5 +253,5 @@ tests =
     ∷ []
 
 pub marked : every tests ≡ true
-unfolding same every shownAs shown cellsFrom partShown times settings sheetS memoryS at stateOfStart wordsOfStart stateAfter buffer firstRow clearPart setPart row0 row1 padded page one two plain video nine ten twelve windowOn inHand tests _>>=_ each runFrom pointer nextWord ahead words good timing linesForRows halved invokingCodes ones onesIn mainBlock mainBlockAt segmentOf segmentsOf restOfBlock blockAt rowBlockAt windowRowAt formatOf redefined W.windowOf W.windowAt W.firstWindow W.dueWindow S.formatInRange S.isAddress S.windowInRange S.inRange invokes sourceNumber cell width total fits allFit boundary edgesFit covered onSide segmentsOn windowRow overlaid nextFields backgroundRow plan taking put character examine pair codes filled fillByWord fillTo segment segmentsTo cells row withCursor rowCall firstFields startFrom startCall outcomeFor effectCall
+unfolding same every shownAs shown cellsFrom partShown times settings sheetS memoryS at stateOfStart wordsOfStart stateAfter buffer firstRow clearPart setPart row0 row1 padded page one two plain video nine ten twelve windowOn inHand tests _>>=_ each runFrom pointer nextWord ahead words good timing linesForRows clocks halved invokingCodes sheetOf sheetCall ones onesIn mainBlock mainBlockAt segmentOf segmentsOf restOfBlock blockAt rowBlockAt windowRowAt formatOf redefined W.windowOf W.windowAt W.firstWindow W.dueWindow S.formatInRange S.isAddress S.windowInRange S.inRange invokes sourceNumber cell width total fits allFit boundary edgesFit covered onSide segmentsOn windowRow overlaid nextFields backgroundRow plan taking put character examine pair codes filled fillByWord fillTo segment segmentsTo cells row withCursor rowCall firstFields startFrom startCall outcomeFor effectCall
 marked = refl

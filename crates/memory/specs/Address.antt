@@ -8,7 +8,7 @@ use Rattle.memory.specs.declared.WordsRead.the-variants.{Whole, Missing}
 use Rattle.memory.specs.Reading.{Reading, done, ask, word, _>>=_, Outcome, given, refused}
 
 -- "A pointer is two words. Linear: low byte of the first, then the second. Segmented: bits 14 to 8 of the first are the
--- page, the second the place in the page. Bit 0 is cleared; a pointer that is then 0 points at nothing."
+-- page, the second the place in the page .. Bit 0 is cleared; a pointer that is then 0 points at nothing."
 unfoldable pub pointer : Bool → ℕ → ℕ → ℕ
 pointer true first second = (first % 256 * 65536 + second) / 2 * 2
 pointer false first second = (first / 256 % 128 * 65536 + second) / 2 * 2

@@ -38,7 +38,7 @@ unfoldable pub each : {A B : Type 0} → (A → B → Reading B) → List A → 
 each f [] b = done b
 each f (x ∷ xs) b = f x b >>= each f xs
 
--- "Memory is a lent slice of 16-bit words; the word at byte address a is number a/2."
+-- "Memory is a lent slice of 16-bit words; the word at byte address a is number a/2." An absent word is refusal 7 (`runFrom`).
 abbrev pub fetch : List ℕ → ℕ → Fetch
 fetch m a = if ltb (a / 2) (length m) then Word (getD m (a / 2) 0) else Absent
 

@@ -40,7 +40,7 @@ startFrom latch σ = do
   w ← firstWindow (σ .linear) (pointer (σ .linear) (σ .tow .first) (σ .tow .second))
   done (stateOf latch (firstFields σ m w))
 
--- "The latch .. is 0 at the start of a frame."
+-- "It is 0 at the start of a frame.", of the latch
 abbrev pub start : Settings → Reading State
 start σ = startFrom 0 σ
 

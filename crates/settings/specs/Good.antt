@@ -18,11 +18,15 @@ inRange σ =
     leb (σ .vsw) 63 && leb (σ .vsd) 63 && leb (σ .val) 4095 && leb (σ .vtot) 4095
     && leb (σ .hsync) 255 && leb (σ .hsd) 511 && leb (σ .htc) 1023 && leb (σ .htd) 1023
 
+-- "HTD - HSD, the shown columns"
+abbrev pub shownColumns : Settings → ℕ
+shownColumns σ = σ .htd - σ .hsd
+
 -- "VSD < VAL <= VTOT, HSYNC < HTC, HSD < HTD <= HTC, and HTD - HSD, the shown columns, is at most 132"
 abbrev pub inOrder : Settings → Bool
 inOrder σ =
     ltb (σ .vsd) (σ .val) && leb (σ .val) (σ .vtot)
-    && ltb (σ .hsync) (σ .htc) && ltb (σ .hsd) (σ .htd) && leb (σ .htd) (σ .htc) && leb (σ .htd - σ .hsd) 132
+    && ltb (σ .hsync) (σ .htc) && ltb (σ .hsd) (σ .htd) && leb (σ .htd) (σ .htc) && leb (shownColumns σ) 132
 
 abbrev pub odd : ℕ → Bool
 odd n = eqb (n % 2) 1
@@ -42,7 +46,7 @@ fitsMode Video σ = fitsFields σ
 unfoldable pub good : Settings → Bool
 good σ = inRange σ && inOrder σ && fitsMode (σ .interlace) σ
 
--- what good settings come to, as facts on numbers
+-- facts on numbers that good settings give, as far as the sheet's sums need them
 pub record Ordered (σ : Settings) : Type 0 where
   pub vsw-range : σ .vsw ≤ 63
   pub vsd-range : σ .vsd ≤ 63
@@ -53,4 +57,4 @@ pub record Ordered (σ : Settings) : Type 0 where
   pub hsync-htc : σ .hsync < σ .htc
   pub hsd-htd : σ .hsd < σ .htd
   pub htd-htc : σ .htd ≤ σ .htc
-  pub columns : σ .htd - σ .hsd ≤ 132
+  pub columns : shownColumns σ ≤ 132

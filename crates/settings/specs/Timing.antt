@@ -14,8 +14,7 @@ halfLines Progressive = 2
 halfLines RepeatField = 1
 halfLines Video = 1
 
--- "sync 2(VSW+1), VSW+1; back porch 2(VSD+1), VSD+1; active 2(VAL-VSD), VAL-VSD; front porch 2(VTOT-VAL), VTOT-VAL;
--- field 2(VSW+VTOT+2), VSW+VTOT+2"
+-- the table's rows: sync, back porch, active, front porch, field
 unfoldable pub timing : Settings → Timing
 timing σ = record {
   sync = halfLines (σ .interlace) * (σ .vsw + 1);
