@@ -2,10 +2,12 @@
 use mathlib.Core.Path.{_≡_, refl, ap, ap₂, sym, _∙_}
 use mathlib.Core.List.{List, [], _∷_, _++_}
 use mathlib.Core.Bool.{Bool, true, false}
-use Prim.Native.Nat.{ℕ, zero, suc, _+_, _*_, _%_, _≤_}
+use Prim.Native.Nat.{ℕ, zero, suc, _+_, _-_, _*_, _%_, _<_, _≤_}
+use native.Mathlib.Nat.{add-zero}
 use native.Mathlib.Omega.{arith}
 use lib.ListN.{length, getD, drop, length-drop, List·getD-append}
-use lib.Seq.{drop-append-le}
+use lib.Seq.{drop-append-le, drop-drop, getD-drop}
+use Rattle.memory.specs.Word.{high, low}
 use Rattle.memory.specs.declared.WordsRead.{WordsRead}
 use Rattle.memory.specs.declared.WordsRead.the-variants.{Whole, Missing}
 use Rattle.memory.specs.Reading.{_>>=_, given, refused, runFrom, run}
@@ -26,6 +28,44 @@ segments-prefix l zero ys zs h = refl
 segments-prefix l (suc n) ys zs h =
     ap₂ _∷_ (segment-prefix l ys zs (omega arith))
     (rw (drop-append-le 5 ys zs (omega arith)) (segments-prefix l n (drop 5 ys) zs (simp length-drop (omega arith))))
+
+-- of the segments from word 5 * i on: the first and the rest; none
+module _ (l : Bool) (left i : ℕ) (ws : List ℕ) where
+  pub segments-more : 0 < left
+      → segmentsOf l left (drop (5 * i) ws) ≡ segmentOf l (drop (5 * i) ws) ∷ segmentsOf l (left - 1) (drop (5 * (i + 1)) ws)
+  unfolding segmentsOf
+  segments-more h =
+      let n : left ≡ suc (left - 1) = omega arith in
+      let k : 5 * i + 5 ≡ 5 * (i + 1) = omega arith in
+      ap (λ (j : ℕ). segmentsOf l j (drop (5 * i) ws)) n ∙ rw (drop-drop 5 (5 * i) ws, k)
+
+  pub segments-none : left ≡ 0 → segmentsOf l left (drop (5 * i) ws) ≡ []
+  unfolding segmentsOf
+  segments-none e = rw e
+
+pub segments-length : (l : Bool) (n : ℕ) (ws : List ℕ) → length (segmentsOf l n ws) ≡ n
+unfolding segmentsOf
+segments-length l zero ws = refl
+segments-length l (suc n) ws = ap suc (segments-length l n (drop 5 ws))
+
+-- the segment from word k on, and that of no words
+pub segment-at : (l : Bool) (k : ℕ) (ws : List ℕ) → segmentOf l (drop k ws) ≡ record {
+  codes = pointer l (at ws k) (at ws (k + 1));
+  attributes = pointer l (at ws (k + 2)) (at ws (k + 3));
+  length = high (at ws (k + 4));
+  visible = low (at ws (k + 4));
+}
+unfolding segmentOf
+segment-at l k ws = simp (getD-drop, add-zero)
+
+no-pointer : (l : Bool) → pointer l 0 0 ≡ 0
+unfolding pointer
+no-pointer true = refl
+no-pointer false = refl
+
+pub segment-none : (l : Bool) → segmentOf l [] ≡ record { codes = 0; attributes = 0; length = 0; visible = 0 }
+unfolding segmentOf
+segment-none l = rw (no-pointer l)
 
 -- what `read_words` says, of n segments: k words, of which there are more in the slice
 module _ (w : ℕ) (m : List ℕ) (l : Bool) (head : List ℕ) (re a n k : ℕ) (count : n ≡ at head 2 % 16) (size : k ≡ 5 * n)
@@ -48,11 +88,6 @@ module _ (w : ℕ) (m : List ℕ) (l : Bool) (head : List ℕ) (re a n k : ℕ) 
       sym (step-refused w m (words l (5 * (at head 2 % 16)) a) _ (read-missing m l _ a r ys asked h))
 
 -- a block without a redefinition pointer
-no-pointer : (l : Bool) → pointer l 0 0 ≡ 0
-unfolding pointer
-no-pointer true = refl
-no-pointer false = refl
-
 pub plain-block : (w : ℕ) (m : List ℕ) (l : Bool) (a : ℕ) (head : List ℕ)
     → runFrom w m (restOfBlock l a head 0) ≡ runFrom w m (segmentsFrom l head 0 (ahead l 3 a))
 unfolding restOfBlock words _>>=_

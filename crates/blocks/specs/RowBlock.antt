@@ -9,6 +9,7 @@ use Rattle.memory.specs.Reading.{Reading, done, _>>=_, Outcome, given, refused}
 use Rattle.memory.specs.Address.{pointer, ahead, words}
 use Rattle.blocks.specs.declared.Segment.{Segment}
 use Rattle.blocks.specs.declared.RowFormat.{RowFormat}
+use Rattle.blocks.specs.declared.BlockHead.{BlockHead}
 use Rattle.blocks.specs.declared.BlockRead.{BlockRead}
 use Rattle.blocks.specs.declared.BlockRead.the-variants as Block
 use Rattle.blocks.specs.declared.FormatRead.{FormatRead}
@@ -82,10 +83,13 @@ redefined linear a format = if null a then done format else do
   b ← words linear 3 a
   done (formatOf b)
 
+-- a row block, from what its reader gives and the words that it leaves of the segments
+abbrev pub blockOf : Bool → BlockHead → List ℕ → RowBlock
+blockOf linear h ws = record { link = h .link; redefinition = h .redefinition; segments = segmentsOf linear (h .count) ws }
+
 -- the answer of a block's reader, with the words that it leaves of the segments, as an outcome
 abbrev pub blockRead : Bool → BlockRead → List ℕ → Outcome RowBlock
-blockRead linear (Block.Read h) ws =
-    given (h .words) (record { link = h .link; redefinition = h .redefinition; segments = segmentsOf linear (h .count) ws })
+blockRead linear (Block.Read h) ws = given (h .words) (blockOf linear h ws)
 blockRead linear (Block.Missing a) ws = refused 7 a
 
 -- the answer of `redefinition` as an outcome

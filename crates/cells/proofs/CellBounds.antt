@@ -23,7 +23,7 @@ use Rattle.cells.specs.Attribute.{invokes, latches, ignores, cell}
 use Rattle.plan.specs.Layout.{width, total, boundary, Overlay, none, over, edgesFit, segmentsOn}
 use Rattle.plan.specs.declared.Side.the-variants.{Before, After}
 use Rattle.cells.specs.Cells.{Drawing, drawing, listAt, noList, withList, taking, put, character, examine, pair, codes, codeCount}
-use Rattle.cells.specs.Cells.{filled, fillByWord, fillTo, segment, segmentsTo, cells}
+use Rattle.cells.specs.Cells.{filled, fillByWord, fillTo, segment, segmentsTo, rowCells}
 use Rattle.plan.proofs.LayoutLaws.{clear, before-total, after-total, sides-length, side-short}
 use Rattle.plan.proofs.PlanBounds.{Inside}
 
@@ -118,8 +118,8 @@ module _ (σ : Settings) (fill : FillMode) where
       fill-reads end d₁ (h₁ .0, omega arith)
 
   pub cells-read : (o : Overlay) (gs : List Segment) (d : Drawing) → Few 15 gs → total (σ .hidden) gs ≤ 132 → Inside (σ .hidden) o
-      → edgesFit (σ .hidden) o gs ≡ true → At 0 d → Reads (At 132) 11523 (cells σ fill o gs d)
-  unfolding cells edgesFit
+      → edgesFit (σ .hidden) o gs ≡ true → At 0 d → Reads (At 132) 11523 (rowCells σ fill o gs d)
+  unfolding rowCells edgesFit
   cells-read none gs d few n inside e h = weaken (omega arith) (segments-to-read Background gs 132 d (few .0) (h .0) (omega arith))
   cells-read (over first end ws) gs d few n inside e h =
       let hidden = σ .hidden in

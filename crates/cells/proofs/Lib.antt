@@ -1,2 +1,3 @@
 pub mod CellBounds
 pub mod CellLaws
+pub mod SideLaws

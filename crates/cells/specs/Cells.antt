@@ -1,7 +1,7 @@
 -- Document 01, "A row, left to right": the walk that makes a row's cells.
 use Prim.Native.Nat.{ℕ, zero, suc, _+_, _-_}
-use mathlib.Core.Bool.{Bool, true, _&&_, _||_, not}
-use mathlib.Core.List.{List, _++_}
+use mathlib.Core.Bool.{Bool, true, false, _&&_, _||_, not}
+use mathlib.Core.List.{List, [], _++_}
 use lib.ListN.{replicate}
 use lib.Dec.{ltb}
 use Rattle.memory.specs.Word.{if_then_else_, high, low}
@@ -33,6 +33,10 @@ listAt a = record { present = not (null a); next = a }
 
 abbrev pub noList : AttributeList
 noList = listAt 0
+
+-- no cell yet, no list in use, and no word has become the latch
+abbrev pub blank : ℕ → Drawing
+blank latch = drawing (record { column = 0; latch = latch; latched = false; list = noList }) []
 
 -- the pen with another list in use, and at another column
 abbrev pub usingList : AttributeList → Pen → Pen
@@ -126,9 +130,9 @@ module _ (σ : Settings) (fill : FillMode) where
   -- "unfilled cells .. of a window past its segments, and from the row's last segment to cell 131 are fill runs. A window in
   -- the middle of the last makes it two." The list in use is "its segment's; the window's last segment's; the last background
   -- segment drawn before it": the window begins with none, and leaves the background's as it was.
-  unfoldable pub cells : Overlay → List Segment → Drawing → Reading Drawing
-  cells none gs d = segmentsTo Background gs 132 d
-  cells (over first end ws) gs d = do
+  unfoldable pub rowCells : Overlay → List Segment → Drawing → Reading Drawing
+  rowCells none gs d = segmentsTo Background gs 132 d
+  rowCells (over first end ws) gs d = do
     d₁ ← segmentsTo Background (segmentsOn (Before first) (σ .hidden) 0 gs) first d
     d₂ ← segmentsTo Window ws end (withList noList d₁)
     segmentsTo Background (segmentsOn (After first end) (σ .hidden) 0 gs) 132 (withList (d₁ .pen .list) d₂)

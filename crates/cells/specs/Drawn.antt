@@ -1,9 +1,12 @@
 -- The answers of the functions that draw, with the cells that they leave, as outcomes.
-use Prim.Native.Nat.{ℕ, _≤_}
+use Prim.Native.Nat.{ℕ, _+_, _≤_}
 use mathlib.Core.Path.{_≡_}
+use mathlib.Core.Bool.{Bool, true}
 use mathlib.Core.List.{List}
 use lib.ListN.{take}
 use Rattle.memory.specs.Reading.{Outcome, given, refused}
+use Rattle.blocks.specs.declared.Segment.{Segment}
+use Rattle.plan.specs.Layout.{total, Overlay, none, over, edgesFit}
 use Rattle.cells.specs.declared.Pen.{Pen}
 use Rattle.cells.specs.declared.Drawn.{Drawn}
 use Rattle.cells.specs.declared.Drawn.the-variants.{Went, Refused}
@@ -25,3 +28,13 @@ Within end most (Refused n a) = (0 ≤ end) × (0 ≤ most)
 abbrev pub Reached : ℕ → ℕ → Drawn → Type 0
 Reached end most (Went p n) = (p .column ≡ end) × (n ≤ most)
 Reached end most (Refused n a) = (0 ≤ end) × (0 ≤ most)
+
+-- what a plan's checks 10, 11 and 12 give: the widths stay within the row and within the window, whose edges are boundaries
+abbrev pub Inside : Bool → Overlay → Type 0
+Inside hidden none = 0 ≤ 132
+Inside hidden (over first end ws) = (first + total hidden ws ≤ end) × (end ≤ 132)
+
+pub record Drawable (hidden : Bool) (o : Overlay) (gs : List Segment) : Type 0 where
+  pub narrow : total hidden gs ≤ 132
+  pub inside : Inside hidden o
+  pub edges : edgesFit hidden o gs ≡ true

@@ -2,17 +2,23 @@
 use blocks::FillMode;
 use blocks::Segment;
 use memory::Fetch;
+use plan::OverlayHead;
+use plan::Side;
+use plan::layout;
 use settings::Settings;
 ghost use mathlib.Core.Path.{_≡_};
 ghost use mathlib.Core.Bool.{_||_, not};
 ghost use mathlib.Core.List.{_++_};
 ghost use Prim.Native.Nat.{_+_, _-_, _*_, _≤_, _<_};
 ghost use lib.ListN.{length, take, replicate};
-ghost use Rattle.memory.specs.Reading.{runFrom};
-ghost use Rattle.plan.specs.Layout.{width};
+ghost use Rattle.memory.specs.Word.{if_then_else_};
+ghost use Rattle.memory.specs.Reading.{done, each, runFrom};
+ghost use Rattle.blocks.specs.RowBlock.{segmentsOf};
+ghost use Rattle.plan.specs.Layout.{width, total, over, segmentsOn};
+ghost use Rattle.plan.specs.Plan.{overlayOf};
 ghost use Rattle.cells.specs.Attribute.{invokes, ignores, sourceNumber, cell};
-ghost use Rattle.cells.specs.Cells.{codeCount, listAt, usingList, movedTo, taking, character, examine, pair, codes, filled, fillByWord, fillTo, segment};
-ghost use Rattle.cells.specs.Drawn.{soFar, drawn, Within, Reached};
+ghost use Rattle.cells.specs.Cells.{codeCount, listAt, usingList, movedTo, taking, character, examine, pair, codes, filled, fillByWord, fillTo, segment, segmentsTo, rowCells, blank};
+ghost use Rattle.cells.specs.Drawn.{soFar, drawn, Within, Reached, Drawable};
 
 // Where a cell comes from.
 pub enum Source {
@@ -41,6 +47,249 @@ pub enum Drawn {
     Refused { number: u8, address: u32 },
 }
 
+// The cells of a row from a latch, in order, as its plan says: the background's segments in `back`, a window's in `window`.
+pub fn draw_cells(
+    mem: &[u16],
+    settings: Settings,
+    fill: FillMode,
+    overlay: OverlayHead,
+    back: &[u16; 75],
+    count: u8,
+    window: &[u16; 75],
+    latch: u16,
+    words: u32,
+    cells: &mut [u32],
+) -> Drawn
+    requires { ⌜ Drawable (settings .hidden) (overlayOf (settings .linear) overlay (now window)) (segmentsOf (settings .linear) count (now back)) ⌝ }
+    requires { ⌜ (words ≤ 1000) × (length (now cells) ≡ 132) ⌝ }
+    ensures { λ r. ⌜ Reached 132 (words + 400000) r ⌝ }
+    ensures { λ r. ⌜ drawn r (now (cells .exit)) ≡ runFrom words (now (mem .entry)) (rowCells settings fill (overlayOf (settings .linear) overlay (now (window .entry))) (segmentsOf (settings .linear) count (now (back .entry))) (blank latch)) ⌝ }
+{
+    let pen = blank(latch);
+    match overlay {
+        OverlayHead::NoOverlay => draw_run(
+            mem,
+            settings,
+            fill,
+            Source::Background,
+            Side::Whole,
+            back,
+            count,
+            132,
+            pen,
+            words,
+            cells,
+        ),
+        OverlayHead::Over {
+            first,
+            end,
+            count: n,
+        } => draw_around(
+            mem,
+            settings,
+            fill,
+            first,
+            end,
+            back,
+            count,
+            window,
+            n,
+            pen,
+            words,
+            cells,
+        ),
+    }
+}
+
+// The background before a window, the window, and the background after it.
+fn draw_around(
+    mem: &[u16],
+    settings: Settings,
+    fill: FillMode,
+    first: usize,
+    end: usize,
+    back: &[u16; 75],
+    count: u8,
+    window: &[u16; 75],
+    n: u8,
+    pen: Pen,
+    words: u32,
+    cells: &mut [u32],
+) -> Drawn
+    requires { ⌜ Drawable (settings .hidden) (over first end (segmentsOf (settings .linear) n (now window))) (segmentsOf (settings .linear) count (now back)) ⌝ }
+    requires { ⌜ (pen .column ≡ 0) × (length (now cells) ≡ 132) × (words ≤ 1000) ⌝ }
+    ensures { λ r. ⌜ Reached 132 (words + 400000) r ⌝ }
+    ensures { λ r. ⌜ drawn r (now (cells .exit)) ≡ runFrom words (now (mem .entry)) (rowCells settings fill (over first end (segmentsOf (settings .linear) n (now (window .entry)))) (segmentsOf (settings .linear) count (now (back .entry))) (soFar pen (now (cells .entry)))) ⌝ }
+{
+    let source = Source::Background;
+    let side = Side::Before(first);
+    match draw_run(
+        mem,
+        settings,
+        fill,
+        source,
+        side,
+        back,
+        count,
+        first,
+        pen,
+        words,
+        cells,
+    ) {
+        Drawn::Refused { number, address } => Drawn::Refused { number, address },
+        Drawn::Went {
+            pen: before,
+            words: read,
+        } => {
+            let begun = with_list(0, before);
+            match draw_run(
+                mem,
+                settings,
+                fill,
+                Source::Window,
+                Side::Whole,
+                window,
+                n,
+                end,
+                begun,
+                read,
+                cells,
+            ) {
+                Drawn::Refused { number, address } => Drawn::Refused { number, address },
+                Drawn::Went {
+                    pen: after,
+                    words: so_far,
+                } => {
+                    let list = before.list;
+                    let hand = using_list(list, after);
+                    let side = Side::After(first, end);
+                    draw_run(
+                        mem,
+                        settings,
+                        fill,
+                        source,
+                        side,
+                        back,
+                        count,
+                        132,
+                        hand,
+                        so_far,
+                        cells,
+                    )
+                }
+            }
+        }
+    }
+}
+
+// The segments on a side, then the fill run up to the column `end`.
+fn draw_run(
+    mem: &[u16],
+    settings: Settings,
+    fill: FillMode,
+    source: Source,
+    side: Side,
+    segments: &[u16; 75],
+    count: u8,
+    end: usize,
+    pen: Pen,
+    words: u32,
+    cells: &mut [u32],
+) -> Drawn
+    requires { ⌜ (end ≤ length (now cells)) × (words ≤ 3000000000) ⌝ }
+    requires { ⌜ pen .column + total (settings .hidden) (segmentsOn side (settings .hidden) 0 (segmentsOf (settings .linear) count (now segments))) ≤ end ⌝ }
+    ensures { λ r. ⌜ Reached end (words + 131000) r ⌝ }
+    ensures { λ r. ⌜ drawn r (now (cells .exit)) ≡ runFrom words (now (mem .entry)) (segmentsTo settings fill source (segmentsOn side (settings .hidden) 0 (segmentsOf (settings .linear) count (now (segments .entry)))) end (soFar pen (now (cells .entry)))) ⌝ }
+{
+    match draw_side(
+        mem,
+        settings,
+        fill,
+        source,
+        side,
+        segments,
+        count,
+        pen,
+        words,
+        cells,
+    ) {
+        Drawn::Refused { number, address } => Drawn::Refused { number, address },
+        Drawn::Went {
+            pen: after,
+            words: read,
+        } => fill_to(mem, settings, fill, end, after, read, cells),
+    }
+}
+
+// The segments on a side, one after the other.
+fn draw_side(
+    mem: &[u16],
+    settings: Settings,
+    fill: FillMode,
+    source: Source,
+    side: Side,
+    segments: &[u16; 75],
+    count: u8,
+    pen: Pen,
+    words: u32,
+    cells: &mut [u32],
+) -> Drawn
+    requires { ⌜ words ≤ 3000000000 ⌝ }
+    requires { ⌜ pen .column + total (settings .hidden) (segmentsOn side (settings .hidden) 0 (segmentsOf (settings .linear) count (now segments))) ≤ length (now cells) ⌝ }
+    ensures { λ r. ⌜ Reached (pen .column + total (settings .hidden) (segmentsOn side (settings .hidden) 0 (segmentsOf (settings .linear) count (now (segments .entry))))) (words + 512 * count) r ⌝ }
+    ensures { λ r. ⌜ drawn r (now (cells .exit)) ≡ runFrom words (now (mem .entry)) (each (segment settings fill source) (segmentsOn side (settings .hidden) 0 (segmentsOf (settings .linear) count (now (segments .entry)))) (soFar pen (now (cells .entry)))) ⌝ }
+{
+    let n = count as usize;
+    let mut hand = pen;
+    let mut read = words;
+    let mut at = 0;
+    let mut i = 0;
+    while i < n {
+        let g = layout::segment_at(settings.linear, segments, i);
+        let w = layout::width(settings.hidden, g);
+        let chosen = layout::on_side(side, at, w);
+        match draw_chosen(mem, settings, fill, source, chosen, g, hand, read, cells) {
+            Drawn::Refused { number, address } => return Drawn::Refused { number, address },
+            Drawn::Went {
+                pen: after,
+                words: so_far,
+            } => {
+                hand = after;
+                read = so_far;
+            }
+        }
+        at += w;
+        i += 1;
+    }
+    Drawn::Went {
+        pen: hand,
+        words: read,
+    }
+}
+
+// One segment, where it is chosen.
+fn draw_chosen(
+    mem: &[u16],
+    settings: Settings,
+    fill: FillMode,
+    source: Source,
+    chosen: bool,
+    g: Segment,
+    pen: Pen,
+    words: u32,
+    cells: &mut [u32],
+) -> Drawn
+    requires { ⌜ (pen .column + (if chosen then width (settings .hidden) g else 0) ≤ length (now cells)) × (words ≤ 4000000000) ⌝ }
+    ensures { λ r. ⌜ Reached (pen .column + (if chosen then width (settings .hidden) g else 0)) (words + 512) r ⌝ }
+    ensures { λ r. ⌜ drawn r (now (cells .exit)) ≡ runFrom words (now (mem .entry)) (if chosen then segment settings fill source g (soFar pen (now (cells .entry))) else done (soFar pen (now (cells .entry)))) ⌝ }
+{
+    if chosen {
+        draw_segment(mem, settings, fill, source, g, pen, words, cells)
+    } else {
+        Drawn::Went { pen, words }
+    }
+}
+
 // One segment, from the pen's column on.
 fn draw_segment(
     mem: &[u16],
@@ -56,7 +305,7 @@ fn draw_segment(
     ensures { λ r. ⌜ Reached (pen .column + width (settings .hidden) g) (words + 512) r ⌝ }
     ensures { λ r. ⌜ drawn r (now (cells .exit)) ≡ runFrom words (now (mem .entry)) (segment settings fill source g (soFar pen (now (cells .entry)))) ⌝ }
 {
-    let end = pen.column + plan::width(settings.hidden, g);
+    let end = pen.column + layout::width(settings.hidden, g);
     let begun = with_list(g.attributes, pen);
     match draw_codes(
         mem,
@@ -351,10 +600,33 @@ fn with_list(a: u32, pen: Pen) -> Pen
         present: a != 0,
         next: a,
     };
+    using_list(list, pen)
+}
+
+// The pen with another list in use.
+fn using_list(list: AttributeList, pen: Pen) -> Pen
+    ensures { λ r. ⌜ r ≡ usingList list pen ⌝ }
+{
     Pen {
         column: pen.column,
         latch: pen.latch,
         latched: pen.latched,
+        list,
+    }
+}
+
+// The pen where a row begins.
+fn blank(latch: u16) -> Pen
+    ensures { λ r. ⌜ r ≡ blank latch .pen ⌝ }
+{
+    let list = AttributeList {
+        present: false,
+        next: 0,
+    };
+    Pen {
+        column: 0,
+        latch,
+        latched: false,
         list,
     }
 }

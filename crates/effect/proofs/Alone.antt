@@ -48,19 +48,19 @@ sized σ m s b e = rw e
 module _ (σ : Settings) (f : Fields) (b : List ℕ) (l₀ l : ℕ) where
   part-latch : {o₀ o : Outcome Row} → Ends (EndAlike l₀ l) o₀ o → latchMade (answered σ f b o .answer) ≡ applyPart (partOf f o₀) l
   part-latch refuseds = refl
-  part-latch (givens (ends p d e (alike c u xs ys kept))) = refl
-  part-latch (givens (ends p d e (alike c u xs ys (became w)))) = refl
+  part-latch (givens (ends n t g d e (alike c u xs ys kept))) = refl
+  part-latch (givens (ends n t g d e (alike c u xs ys (became w)))) = refl
 
   first-fields : {o₀ o : Outcome Row} (otherwise : NextFields) → Ends (EndAlike l₀ l) o₀ o
       → FieldsMade (nextOf o₀ otherwise) (answered σ f b o .answer)
   first-fields otherwise refuseds = tt
-  first-fields otherwise (givens (ends p d e r)) = refl
+  first-fields otherwise (givens (ends n t g d e r)) = refl
 
   second-fields : {op : Outcome Plan} {o₁ o₀ o : Outcome Row} → Planned op o₁ → Planned op o₀ → Ends (EndAlike l₀ l) o₀ o
       → FieldsMade (nextOf o₁ (nextOf o₀ Unreached)) (answered σ f b o .answer)
   second-fields h k refuseds = tt
-  second-fields accepts accepts (givens (ends p d e r)) = refl
-  second-fields refusing k (givens (ends p d e r)) = refl
+  second-fields (accepts h) (accepts k) (givens (ends n t g d e r)) = ap Reached (h ∙ sym k)
+  second-fields refusing k (givens (ends n t g d e r)) = refl
 
 -- the latch of a part has the bit 13 that the part is for
 ignores-with : (t : Bool) → ignores (latchWith t) ≡ t

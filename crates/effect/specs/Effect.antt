@@ -21,7 +21,7 @@ partOf f (given n r) = if r .drawing .pen .latched then Set (r .drawing .pen .la
 
 -- "unless both parts refuse, comes with the next state's other fields": those of the first outcome that is no refusal
 abbrev pub nextOf : Outcome Row → NextFields → NextFields
-nextOf (given n r) otherwise = Reached (r .plan .next)
+nextOf (given n r) otherwise = Reached (r .next)
 nextOf (refused n a) otherwise = otherwise
 
 -- a latch with ignore clear, and one with it set

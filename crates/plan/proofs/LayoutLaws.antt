@@ -1,15 +1,16 @@
 -- Where background segments stand against a window whose edges are boundaries.
-use mathlib.Core.Path.{_≡_, refl}
-use mathlib.Core.Bool.{Bool, true, false, _&&_, _||_, not}
+use mathlib.Core.Path.{_≡_, refl, sym, _∙_}
+use mathlib.Core.Bool.{Bool, true, false, _&&_, _||_, not, and-false}
 use mathlib.Core.List.{List, [], _∷_}
-use Prim.Native.Nat.{ℕ, suc, _+_, _<_, _≤_, max}
+use Prim.Native.Nat.{ℕ, suc, _+_, _-_, _<_, _≤_, max}
 use native.Mathlib.Omega.{arith}
 use lib.ListN.{length}
 use lib.Dec.{ltb, leb, eqb}
-use borrow.Author.Tests.{ltb-true, ltb-false, leb-true, eqb-true, le-leb, leb-false, not-true}
+use borrow.Author.Tests.{ltb-true, ltb-false, leb-true, eqb-true, le-leb, lt-leb, leb-false, not-true}
 use Rattle.memory.specs.Word.{if_then_else_}
 use Rattle.memory.proofs.ReadBounds.{if-cases, both}
 use Rattle.blocks.specs.declared.Segment.{Segment}
+use Rattle.blocks.specs.RowBlock.{null}
 use Rattle.blocks.proofs.BlockBounds.{Short}
 use Rattle.plan.specs.Layout.{width, total, boundary, covered, onSide, segmentsOn}
 use Rattle.plan.specs.declared.Side.{Side}
@@ -27,7 +28,23 @@ after-end first end s w h =
     let l = le-leb first s (ltb-false s first (not-true (ltb s first) (k .0))) in
     leb-false (s + w) end (not-true (leb (s + w) end) (rw l at (k .1)))
 
+-- whether a segment from s of width w ends by a place, without the sum
+pub ends-by : (s w end : ℕ) → s ≤ end → leb w (end - s) ≡ leb (s + w) end
+ends-by s w end h = cases (leb w (end - s)) refl
+  where
+    cases : (b : Bool) → leb w (end - s) ≡ b → leb w (end - s) ≡ leb (s + w) end
+    cases true e = e ∙ sym (le-leb (s + w) end (omega (arith, leb-true w (end - s) e)))
+    cases false e = e ∙ sym (lt-leb (s + w) end (omega (arith, leb-false w (end - s) e)))
+
+pub ends-past : (b : Bool) (s w end : ℕ) → end < s → false ≡ b && leb (s + w) end
+ends-past b s w end h = sym (rw (lt-leb (s + w) end (omega arith)) (and-false b))
+
 module _ (hidden : Bool) where
+  -- a width is a byte, as length and visible are
+  pub width-byte : (g : Segment) → g .length < 256 → g .visible < 256 → width hidden g ≤ 255
+  unfolding width
+  width-byte g l v = if-cases (λ n. n ≤ 255) (hidden && not (null (g .codes))) (λ _. omega arith) (λ _. omega arith)
+
   pub whole-all : (s : ℕ) (gs : List Segment) → segmentsOn Whole hidden s gs ≡ gs
   unfolding segmentsOn onSide
   whole-all s [] = refl

@@ -6,6 +6,7 @@ use lib.Dec.{ltb, leb, eqb}
 use Rattle.memory.specs.Word.{if_then_else_}
 use Rattle.blocks.specs.declared.Segment.{Segment}
 use Rattle.blocks.specs.RowBlock.{null}
+use Rattle.plan.specs.declared.layout.Measure.{Measure}
 use Rattle.plan.specs.declared.Side.{Side}
 use Rattle.plan.specs.declared.Side.the-variants.{Whole, Before, After}
 
@@ -19,12 +20,16 @@ total hidden [] = 0
 total hidden (g ∷ gs) = width hidden g + total hidden gs
 
 -- Refusal 9: "V > L, code pointer not null"
-unfoldable pub fits : Segment → Bool
+abbrev pub fits : Segment → Bool
 fits g = null (g .codes) || leb (g .visible) (g .length)
 
 unfoldable pub allFit : List Segment → Bool
 allFit [] = true
 allFit (g ∷ gs) = fits g && allFit gs
+
+-- both of a row's segments, as `measure_segments` gives them
+abbrev pub measured : Bool → List Segment → Measure
+measured hidden gs = record { fit = allFit gs; width = total hidden gs }
 
 -- whether a place is a boundary of the segments from the place s on: "every place at or past the segments' sum is one (ours)"
 unfoldable pub boundary : Bool → ℕ → List Segment → ℕ → Bool

@@ -16,11 +16,11 @@ abbrev pub stateOf : ℕ → Fields → State
 stateOf latch f = record { latch = latch; fields = f }
 
 -- "scan lines not 1..32, CURS or CURE > 31, row attributes > 1023"
-unfoldable pub formatInRange : RowFormat → Bool
+abbrev pub formatInRange : RowFormat → Bool
 formatInRange t = leb 1 (t .lines) && leb (t .lines) 32 && leb (t .curs) 31 && leb (t .cure) 31 && leb (t .attributes) 1023
 
 -- "an address odd or above 24 bits"
-unfoldable pub isAddress : ℕ → Bool
+abbrev pub isAddress : ℕ → Bool
 isAddress a = eqb (a % 2) 0 && ltb a 16777216
 
 -- "window rows or columns out of order or range"

@@ -16,14 +16,15 @@ use Rattle.blocks.specs.declared.Segment.{Segment}
 use Rattle.cells.specs.declared.Source.{Source}
 use Rattle.cells.specs.declared.Source.the-variants.{Background, Window}
 use Rattle.cells.specs.declared.AttributeList.{AttributeList}
+use Rattle.blocks.specs.declared.RowFormat.{RowFormat}
 use Rattle.plan.specs.declared.Fields.{Fields}
 use Rattle.plan.specs.State.{stateOf}
 use Rattle.cells.specs.Attribute.{invokes, latches, ignores}
 use Rattle.plan.specs.Layout.{width, Overlay, none, over}
 use Rattle.plan.specs.Plan.{Plan, plan}
-use Rattle.cells.specs.Cells.{Drawing, drawing, noList, listAt, withList, taking, put, character, examine, pair, codes}
-use Rattle.cells.specs.Cells.{filled, fillByWord, fillTo, segment, segmentsTo, cells}
-use Rattle.row.specs.Row.{Row, drawnBy, blank, row}
+use Rattle.cells.specs.Cells.{Drawing, drawing, blank, noList, listAt, withList, taking, put, character, examine, pair, codes}
+use Rattle.cells.specs.Cells.{filled, fillByWord, fillTo, segment, segmentsTo, rowCells}
+use Rattle.row.specs.Row.{Row, drawnBy, row}
 
 module _ (l₁ l₂ : ℕ) where
   -- the latches of two drawings, one begun with l₁ and one with l₂; the flag says whether a word of the row became the latch
@@ -39,7 +40,8 @@ module _ (l₁ l₂ : ℕ) where
 
   -- two rows that end alike: one plan, and drawings that stand alike
   pub data EndAlike : Row → Row → Type 0 where
-    ends : (p : Plan) (d e : Drawing) → Alike d e → EndAlike (drawnBy p d) (drawnBy p e)
+    ends : (lines : ℕ) (format : RowFormat) (next : Fields) (d e : Drawing) → Alike d e
+        → EndAlike (record { lines = lines; format = format; next = next; drawing = d }) (record { lines = lines; format = format; next = next; drawing = e })
 
   -- a step of the walk that keeps drawings alike
   abbrev Keeps : (Drawing → Reading Drawing) → Type 0
@@ -127,8 +129,8 @@ module _ (l₁ l₂ : ℕ) (same : ignores l₁ ≡ ignores l₂) (σ : Settings
     unfolding segmentsTo
     segments-keep source gs end d e r = bind (each-rel (segment-keeps source) gs d e r) (fill-keeps end)
 
-    cells-keeps : (o : Overlay) (gs : List Segment) → Keeps l₁ l₂ (cells σ fill o gs)
-    unfolding cells
+    cells-keeps : (o : Overlay) (gs : List Segment) → Keeps l₁ l₂ (rowCells σ fill o gs)
+    unfolding rowCells
     cells-keeps none gs d e r = segments-keep Background gs 132 d e r
     cells-keeps (over first end ws) gs d e r =
         bind (segments-keep Background _ first d e r) λ d₁ e₁ r₁.
@@ -139,11 +141,11 @@ module _ (l₁ l₂ : ℕ) (same : ignores l₁ ≡ ignores l₂) (σ : Settings
   unfolding row
   row-alike f =
       bind-same (plan σ f) λ p.
-      bind (cells-keeps (f .fill) (p .overlay) (p .segments) _ _ (alike 0 noList [] [] kept)) λ d e r. dones (ends p d e r)
+      bind (cells-keeps (f .fill) (p .overlay) (p .segments) _ _ (alike 0 noList [] [] kept)) λ d e r. dones (ends (p .lines) (p .format) (p .next) d e r)
 
--- a row's outcome, against that of its plan: an accepted row has that plan
+-- a row's outcome, against that of its plan: an accepted row has that plan's next fields
 pub data Planned : Outcome Plan → Outcome Row → Type 0 where
-  accepts : {i n : ℕ} {p : Plan} {d : Drawing} → Planned (given i p) (given n (drawnBy p d))
+  accepts : {i n : ℕ} {p : Plan} {r : Row} → r .next ≡ p .next → Planned (given i p) (given n r)
   refusing : {o : Outcome Plan} {n at : ℕ} → Planned o (refused n at)
 
 pub row-planned : (σ : Settings) (m : List ℕ) (f : Fields) (latch : ℕ) → Planned (run m (plan σ f)) (run m (row σ (stateOf latch f)))
@@ -151,13 +153,13 @@ unfolding row runFrom
 row-planned σ m f latch = by-plan (run m (plan σ f)) refl
   where
     drawn : Plan → Reading Drawing
-    drawn p = cells σ (f .fill) (p .overlay) (p .segments) (blank latch)
+    drawn p = rowCells σ (f .fill) (p .overlay) (p .segments) (blank latch)
 
     ended : Plan → Drawing → Reading Row
     ended p d = done (drawnBy p d)
 
     by-cells : (i : ℕ) (p : Plan) (o : Outcome Drawing) → runFrom i m (drawn p) ≡ o → Planned (given i p) (runFrom i m (drawn p >>= ended p))
-    by-cells i p (given n d) e = rw (bind-given i m (drawn p) (ended p) e) accepts
+    by-cells i p (given n d) e = rw (bind-given i m (drawn p) (ended p) e) (accepts refl)
     by-cells i p (refused n at) e = rw (bind-refused i m (drawn p) (ended p) e) refusing
 
     by-plan : (o : Outcome Plan) → run m (plan σ f) ≡ o → Planned o (run m (plan σ f >>= λ p. drawn p >>= ended p))

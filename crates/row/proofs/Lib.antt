@@ -1,2 +1,4 @@
 pub mod RowBound
 pub mod Alike
+pub mod StartLaws
+pub mod RowLaws

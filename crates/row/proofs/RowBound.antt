@@ -12,8 +12,9 @@ use Rattle.memory.proofs.ReadBounds.{Words, Reads, dones, bind, Within, given-w
 use Rattle.settings.specs.declared.Settings.{Settings}
 use Rattle.plan.specs.declared.Fields.{Fields}
 use Rattle.plan.specs.declared.State.{State}
-use Rattle.row.specs.Row.{Row, row, blank, withCursor, Called, answered, rowCall}
+use Rattle.row.specs.Row.{Row, row, withCursor, Called, answered, rowCall}
 use Rattle.plan.proofs.PlanBounds.{plan-reads}
+use Rattle.cells.specs.Cells.{blank}
 use Rattle.cells.proofs.CellBounds.{cells-read}
 
 -- a row: 167 words of blocks, 30 segments of 384, and 3 fill runs

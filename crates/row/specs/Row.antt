@@ -1,40 +1,47 @@
 -- A row, and the row call with its row buffer.
-use Prim.Native.Nat.{ℕ, _^_}
-use mathlib.Core.Bool.{Bool, false, _&&_}
-use mathlib.Core.List.{List, []}
+use Prim.Native.Nat.{ℕ, _^_, _<_}
+use mathlib.Core.Bool.{_&&_}
+use mathlib.Core.List.{List}
 use lib.ListN.{length, getD, set}
-use lib.Dec.{ltb, eqb}
+use lib.Dec.{eqb}
 use lib.Bits.{bitOr}
 use Rattle.memory.specs.Word.{if_then_else_}
 use Rattle.memory.specs.Reading.{Reading, done, _>>=_, Outcome, given, refused, run}
 use Rattle.settings.specs.declared.Settings.{Settings}
-use Rattle.cells.specs.declared.Pen.{Pen}
+use Rattle.blocks.specs.declared.FillMode.{FillMode}
+use Rattle.blocks.specs.declared.RowFormat.{RowFormat}
 use Rattle.plan.specs.declared.Fields.{Fields}
 use Rattle.plan.specs.declared.State.{State}
+use Rattle.row.specs.declared.RowDrawn.{RowDrawn}
+use Rattle.row.specs.declared.RowDrawn.the-variants as Drawn
 use Rattle.row.specs.declared.RowAnswer.{RowAnswer}
 use Rattle.row.specs.declared.RowAnswer.the-variants.{Accepted, Refused}
 use Rattle.plan.specs.State.{stateOf, refusal}
 use Rattle.plan.specs.Plan.{Plan, plan}
-use Rattle.cells.specs.Cells.{Drawing, drawing, noList, cells}
+use Rattle.cells.specs.Cells.{Drawing, blank, rowCells}
+use Rattle.cells.specs.Drawn.{soFar}
 
--- what a row comes to: its plan, and its drawing at the end
+-- what a row comes to: its lines and format, the next state's fields, and its drawing at the end
 pub record Row : Type 0 where
-  pub plan : Plan
+  pub lines : ℕ
+  pub format : RowFormat
+  pub next : Fields
   pub drawing : Drawing
 
 abbrev pub drawnBy : Plan → Drawing → Row
-drawnBy p d = record { plan = p; drawing = d }
+drawnBy p d = record { lines = p .lines; format = p .format; next = p .next; drawing = d }
 
--- no cell yet, no list in use, and no word has become the latch
-abbrev pub blank : ℕ → Drawing
-blank latch = drawing (record { column = 0; latch = latch; latched = false; list = noList }) []
+-- "then cells as met (7, 13)"
+abbrev pub fromPlan : Settings → FillMode → ℕ → Plan → Reading Row
+fromPlan σ fill latch p = do
+  d ← rowCells σ fill (p .overlay) (p .segments) (blank latch)
+  done (drawnBy p d)
 
 -- "Row: 1 to 5; .. 12; then cells as met (7, 13)." Check 1, on the row buffer, is the row call's.
 unfoldable pub row : Settings → State → Reading Row
 row σ s = do
   p ← plan σ (s .fields)
-  d ← cells σ (s .fields .fill) (p .overlay) (p .segments) (blank (s .latch))
-  done (drawnBy p d)
+  fromPlan σ (s .fields .fill) (s .latch) p
 
 -- Cell bit "22 the absolute cursor, when enabled and X, Y are this cell"
 unfoldable pub withCursor : Settings → Fields → List ℕ → List ℕ
@@ -52,15 +59,14 @@ abbrev pub called : RowAnswer → List ℕ → Called
 called answer buffer = record { answer = answer; buffer = buffer }
 
 -- "A row's answer is its number, lines, row attributes, CURS, CURE, word count, cells and next state."
+abbrev pub answerOf : ℕ → ℕ → RowFormat → ℕ → State → RowAnswer
+answerOf number lines format words next =
+    Accepted (record { number = number; lines = lines; format = format; words = words; next = next })
+
 abbrev pub accepted : Settings → Fields → ℕ → Row → Called
 accepted σ f words r =
-    called (Accepted (record {
-      number = f .row;
-      lines = r .plan .lines;
-      format = r .plan .format;
-      words = words;
-      next = stateOf (r .drawing .pen .latch) (r .plan .next);
-    })) (withCursor σ f (r .drawing .cells))
+    called (answerOf (f .row) (r .lines) (r .format) words (stateOf (r .drawing .pen .latch) (r .next)))
+    (withCursor σ f (r .drawing .cells))
 
 -- "State and buffer stay"
 abbrev pub answered : Settings → Fields → List ℕ → Outcome Row → Called
@@ -73,3 +79,13 @@ rowCall σ m s buffer =
     if eqb (length buffer) 132
     then answered σ (s .fields) buffer (run m (row σ s))
     else called (Refused (refusal (s .fields .row) 1 0)) buffer
+
+-- the answer of `draw_row`, with the cells that it leaves, as an outcome
+abbrev pub rowDrawn : RowDrawn → List ℕ → Outcome Row
+rowDrawn (Drawn.Went e n) cs = given n (record { lines = e .lines; format = e .format; next = e .next; drawing = soFar (e .pen) cs })
+rowDrawn (Drawn.Refused n a) cs = refused n a
+
+-- "a row reads fewer than 12,000"
+abbrev pub FewWords : RowAnswer → Type 0
+FewWords (Accepted r) = r .words < 12000
+FewWords (Refused r) = 0 < 12000

@@ -30,6 +30,12 @@ firstFields σ m w = record {
   window = w;
 }
 
+-- "then 7 and 8 for the first window"
+unfoldable pub windowStart : ℕ → Settings → MainBlock → Reading State
+windowStart latch σ m = do
+  w ← firstWindow (σ .linear) (pointer (σ .linear) (σ .tow .first) (σ .tow .second))
+  done (stateOf latch (firstFields σ m w))
+
 -- "Start: 2, 6, 7 for the main block, then 7 and 8 for the first window." Refusal 6: "TOP null (start)"
 unfoldable pub startFrom : ℕ → Settings → Reading State
 startFrom latch σ = do
@@ -37,8 +43,7 @@ startFrom latch σ = do
   let top = pointer (σ .linear) (σ .top .first) (σ .top .second)
   check 6 (not (null top))
   m ← mainBlockAt (σ .linear) top
-  w ← firstWindow (σ .linear) (pointer (σ .linear) (σ .tow .first) (σ .tow .second))
-  done (stateOf latch (firstFields σ m w))
+  windowStart latch σ m
 
 -- "It is 0 at the start of a frame.", of the latch
 abbrev pub start : Settings → Reading State

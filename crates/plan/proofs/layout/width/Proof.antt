@@ -1,7 +1,7 @@
 use Rattle.plan.specs.Layout.{width}
 use borrow.Author.Needs.{needs}
-use Rattle.plan.proofs.width.Statement.{statement}
-use Rattle.plan.proofs.width.Tie as tie
+use Rattle.plan.proofs.layout.width.Statement.{statement}
+use Rattle.plan.proofs.layout.width.Tie as tie
 
 returns : tie.Need-returns
 unfolding width

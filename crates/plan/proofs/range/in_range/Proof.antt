@@ -1,0 +1,20 @@
+use Rattle.plan.specs.State.{inRange}
+use borrow.Author.Needs.{needs}
+use Rattle.plan.proofs.range.in_range.Statement.{statement}
+use Rattle.plan.proofs.range.in_range.Tie as tie
+
+returns : tie.Need-returns
+unfolding inRange
+returns c = rw (c .before .before .format-in-range .ensures, c .before .is-address .ensures, c .window-in-range .ensures)
+
+pub in-range-spec : {M : Type 1} → statement M
+in-range-spec =
+    tie.close
+    (tie.spec
+    (λ c. search needs)
+    (λ c. search needs)
+    (λ c. search needs)
+    (λ c κs. search needs)
+    (λ c κs. search needs)
+    (λ c κs. search needs)
+    returns)

@@ -1,0 +1,41 @@
+// Whether a state is in range: refusal 3.
+use crate::Fields;
+use blocks::RowFormat;
+use blocks::WindowInHand;
+ghost use mathlib.Core.Path.{_≡_};
+ghost use Rattle.plan.specs.State.{formatInRange, isAddress, windowInRange, inRange};
+
+// Are the fields in range? Every test is made (`&`), so there is one way through.
+pub(crate) fn in_range(f: Fields) -> bool
+    ensures { λ r. ⌜ r ≡ inRange f ⌝ }
+{
+    let format = f.format;
+    let window = f.window;
+    (f.row as u32 + f.left as u32 <= 4095)
+        & format_in_range(format)
+        & is_address(f.next)
+        & window_in_range(window)
+}
+
+fn format_in_range(t: RowFormat) -> bool
+    ensures { λ r. ⌜ r ≡ formatInRange t ⌝ }
+{
+    (1 <= t.lines) & (t.lines <= 32) & (t.curs <= 31) & (t.cure <= 31) & (t.attributes <= 1023)
+}
+
+fn is_address(a: u32) -> bool
+    ensures { λ r. ⌜ r ≡ isAddress a ⌝ }
+{
+    (a % 2 == 0) & (a < 16777216)
+}
+
+fn window_in_range(in_hand: WindowInHand) -> bool
+    ensures { λ r. ⌜ r ≡ windowInRange «in_hand» ⌝ }
+{
+    match in_hand {
+        WindowInHand::Absent => true,
+        WindowInHand::Present(w) => {
+            blocks::in_order(w) & is_address(w.rows) & is_address(w.link)
+        }
+    }
+}

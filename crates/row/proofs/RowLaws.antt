@@ -1,0 +1,32 @@
+-- The laws by which a proof follows a row.
+use mathlib.Core.Path.{_≡_, refl, sym, ap, _∙_}
+use mathlib.Core.Bool.{Bool, true, false, _&&_}
+use mathlib.Core.List.{List}
+use Prim.Native.Nat.{ℕ, _≤_}
+use native.Mathlib.Omega.{arith}
+use lib.ListN.{length, take, set, length-take}
+use lib.Seq.{set-out, take-all}
+use lib.Dec.{ltb, lit≤}
+use borrow.Author.Tests.{ltb-false}
+use Rattle.memory.specs.Word.{if_then_else_}
+use Rattle.plan.specs.Layout.{Overlay, none, over}
+use Rattle.plan.specs.Plan.{Plan}
+use Rattle.plan.proofs.PlanBounds as Bounds
+use Rattle.cells.specs.Drawn.{Inside, Drawable}
+
+-- what a sound plan gives the cells
+inside : (hidden : Bool) (o : Overlay) → Bounds.Inside hidden o → Inside hidden o
+inside hidden none h = lit≤ tt
+inside hidden (over first end ws) h = (h .1, h .2)
+
+pub drawable : (hidden : Bool) (p : Plan) → Bounds.Sound hidden p → Drawable hidden (p .overlay) (p .segments)
+drawable hidden p s = record { narrow = s .narrow; inside = inside hidden (p .overlay) (s .inside); edges = s .edges }
+
+-- a mark past the cells changes nothing
+pub mark-off : (b : Bool) (x v : ℕ) (cs : List ℕ) → b && ltb x 132 ≡ false → length cs ≡ 132 → cs ≡ (if b then set cs x v else cs)
+mark-off true x v cs e l = sym (set-out cs x v (omega (arith, ltb-false x 132 e)))
+mark-off false x v cs e l = refl
+
+-- as many cells as a list has at most, and that many: the list
+pub whole-list : (n : ℕ) (cs : List ℕ) → length cs ≡ 132 → length (take n cs) ≡ 132 → take n cs ≡ cs
+whole-list n cs l e = take-all n cs (omega (arith, length-take n cs))
