@@ -1,12 +1,12 @@
 -- What the plan of a row comes to: a law for each way through its definitions, from what the readings in it come to.
-use mathlib.Core.Path.{_≡_, sym, _∙_}
+use mathlib.Core.Path.{_≡_, _∙_}
 use mathlib.Core.Bool.{Bool, true, false, not}
 use mathlib.Core.List.{List}
 use Prim.Native.Nat.{ℕ, _+_, _-_, _<_, _≤_}
 use native.Mathlib.Omega.{arith}
 use lib.Dec.{ltb, leb}
 use borrow.Author.Tests.{lt-ltb, le-ltb, le-leb, lt-leb, not-true, not-false}
-use Rattle.memory.specs.Reading.{Reading, done, _>>=_, _>>_, check, given, refused, runFrom, run}
+use Rattle.memory.specs.Reading.{Reading, done, _>>_, check, given, refused, runFrom, run}
 use Rattle.memory.proofs.Laws.{bind-given, bind-refused, step-given, step-refused, check-passed, check-failed, run-done}
 use Rattle.memory.proofs.ReadBounds.{Words, reads-given}
 use Rattle.settings.specs.declared.Settings.{Settings}
@@ -23,24 +23,25 @@ use Rattle.plan.specs.declared.Fields.{Fields}
 use Rattle.plan.specs.declared.layout.Measure.{Measure}
 use Rattle.plan.specs.State.{inRange}
 use Rattle.plan.specs.Layout.{total, allFit, measured, over, edgesFit}
-use Rattle.plan.specs.Plan.{Overlaid, withRows, windowRow, overlaid, Plan, BackgroundRow, backgroundRow, planned, fromBlocks, plan}
+use Rattle.plan.specs.Plan.{Overlaid, withRows, windowRow, overlaid, BackgroundRow, backgroundRow, planned, fromBlocks, plan}
 use Rattle.plan.proofs.PlanBounds.{placed, background-reads, overlaid-reads}
 
--- checks 9 and then k, 10 or 11, on a row's segments, from their measure
-module _ (w : ℕ) (m : List ℕ) (hidden : Bool) (gs : List Segment) (k limit : ℕ) {A : Type 0} (a : A) (x : Measure) (e : x ≡ measured hidden gs) where
-  abbrev judged : Reading A
-  judged = check 9 (allFit gs) >> (check k (leb (total hidden gs) limit) >> done a)
+-- checks 9 and then k, 10 or 11, on a row's segments; what they come to, from the segments' measure
+abbrev judged : {A : Type 0} → Bool → List Segment → ℕ → ℕ → A → Reading A
+judged hidden gs k limit a = check 9 (allFit gs) >> (check k (leb (total hidden gs) limit) >> done a)
 
-  pub segments-unfit : not (x .fit) ≡ true → runFrom w m judged ≡ refused 9 0
+module _ (w : ℕ) (m : List ℕ) (hidden : Bool) (gs : List Segment) (k limit : ℕ) {A : Type 0} (a : A) (x : Measure)
+    (e : x ≡ measured hidden gs) where
+  pub segments-unfit : not (x .fit) ≡ true → runFrom w m (judged hidden gs k limit a) ≡ refused 9 0
   segments-unfit h = check-failed w m 9 (allFit gs) _ (not-true (allFit gs) (rw e at h))
 
   module _ (h : not (x .fit) ≡ false) where
-    pub segments-wide : limit < x .width → runFrom w m judged ≡ refused k 0
+    pub segments-wide : limit < x .width → runFrom w m (judged hidden gs k limit a) ≡ refused k 0
     segments-wide l =
         check-passed w m 9 (allFit gs) _ (not-false (allFit gs) (rw e at h))
         ∙ check-failed w m k (leb (total hidden gs) limit) _ (lt-leb (total hidden gs) limit (rw e at l))
 
-    pub segments-pass : x .width ≤ limit → runFrom w m judged ≡ given w a
+    pub segments-pass : x .width ≤ limit → runFrom w m (judged hidden gs k limit a) ≡ given w a
     segments-pass l =
         check-passed w m 9 (allFit gs) _ (not-false (allFit gs) (rw e at h))
         ∙ check-passed w m k (leb (total hidden gs) limit) _ (le-leb (total hidden gs) limit (rw e at l)) ∙ run-done w m a
@@ -61,8 +62,7 @@ module _ (m : List ℕ) (σ : Settings) (f : Fields) where
 
     module _ {n : ℕ} {t : RowFormat} (d : run m (redefined (σ .linear) (b .redefinition) (f .format)) ≡ given n t) where
       pub background-checks : run m (backgroundRow σ f)
-          ≡ runFrom (w + n) m (check 9 (allFit (b .segments))
-          >> (check 10 (leb (total (σ .hidden) (b .segments)) 132) >> done (record { block = b; format = t })))
+          ≡ runFrom (w + n) m (judged (σ .hidden) (b .segments) 10 132 (record { block = b; format = t }))
       unfolding backgroundRow
       background-checks =
           bind-given 0 m (rowBlockAt (σ .linear) (f .next)) _ e ∙ step-given w m (redefined (σ .linear) (b .redefinition) (f .format)) _ d
@@ -82,8 +82,8 @@ module _ (m : List ℕ) (σ : Settings) (w : Window) where
   window-missing e = bind-refused 0 m (windowRowAt (σ .linear) (w .rows)) _ e
 
   pub window-checks : {n : ℕ} {b : RowBlock} → run m (windowRowAt (σ .linear) (w .rows)) ≡ given n b
-      → run m (windowRow σ w) ≡ runFrom n m (check 9 (allFit (b .segments)) >> (check 11 (leb (total (σ .hidden) (b .segments)) (w .right + 1 - w .left))
-      >> done (record { overlay = over (w .left) (w .right + 1) (b .segments); window = Present (withRows (b .link) w) })))
+      → run m (windowRow σ w) ≡ runFrom n m (judged (σ .hidden) (b .segments) 11 (w .right + 1 - w .left)
+      (record { overlay = over (w .left) (w .right + 1) (b .segments); window = Present (withRows (b .link) w) }))
   unfolding windowRow
   window-checks e = bind-given 0 m (windowRowAt (σ .linear) (w .rows)) _ e
 

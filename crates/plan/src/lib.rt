@@ -149,7 +149,7 @@ fn plan_blocks(
     }
 }
 
-// The refusal of a check, which has no address.
+// The refusal of a check: its address is 0.
 fn refused(number: u8) -> PlanAnswer
     ensures { λ r. ⌜ r ≡ PlanAnswer.Refused number 0 ⌝ }
 {

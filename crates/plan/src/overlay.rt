@@ -126,7 +126,7 @@ fn window_row(mem: &[u16], settings: Settings, w: Window, over: &mut [u16; 75]) 
     }
 }
 
-// How many columns the window has.
+// How many columns the window has: none where they are out of order.
 fn columns(w: Window) -> usize
     ensures { λ r. ⌜ r ≡ w .right + 1 - w .left ⌝ }
 {

@@ -7,7 +7,9 @@ use Rattle.plan.proofs.plan_blocks.Statement.{statement}
 use Rattle.plan.proofs.plan_blocks.Tie as tie
 
 next-fields-requires : tie.Need-next-fields-requires
-next-fields-requires c κs = c .before .before .before .before .before .before .before .before .before .before .before .before .before .before .before .before .before .before .pre .1
+next-fields-requires c κs =
+    let y = c .before .before .before .before .before .before .before .before .before in
+    y .before .before .before .before .before .before .before .before .before .pre .1
 
 -- the words of the window block, of the row block with its redefinition, and of the window row block
 few-words : (c : tie.After-struct-known)

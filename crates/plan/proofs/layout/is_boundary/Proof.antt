@@ -1,5 +1,5 @@
-use mathlib.Core.Path.{_≡_, refl, sym, _∙_}
-use Prim.Native.Nat.{_≤_, _+_, _-_, _*_}
+use mathlib.Core.Path.{_≡_, sym, _∙_}
+use Prim.Native.Nat.{_≤_, _-_, _*_}
 use native.Mathlib.Nat.{sub-zero, sub-add-eq}
 use native.Mathlib.Omega.{arith}
 use lib.ListN.{drop}
@@ -32,7 +32,9 @@ returns c =
     sym (l .inv .2 ∙ rw (g, eq-eqb _ _ (c .if1 .taken)))
 
 add-at : tie.Need-add-at Inv-loop μ-loop
-add-at c = omega (arith, width-byte (c .before .before .before .before .before .args .hidden) (c .before .segment-at .result) (search needs) (search needs), c .width .ensures)
+add-at c =
+    let s = c .before .segment-at in
+    omega (arith, width-byte (c .before .before .before .before .before .args .hidden) (s .result) (search needs) (search needs), c .width .ensures)
 
 loop-again : tie.Need-loop-again Inv-loop μ-loop
 unfolding boundary

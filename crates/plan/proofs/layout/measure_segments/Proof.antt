@@ -1,4 +1,4 @@
-use mathlib.Core.Path.{_≡_, refl, sym, _∙_}
+use mathlib.Core.Path.{_≡_, sym, _∙_}
 use mathlib.Core.Bool.{_&&_, and-assoc, and-true}
 use Prim.Native.Nat.{_≤_, _+_, _-_, _*_}
 use native.Mathlib.Nat.{sub-zero, sub-add-eq, add-assoc, add-zero}
@@ -25,7 +25,9 @@ loop-holds : tie.Need-loop-holds Inv-loop μ-loop
 loop-holds c = (omega arith, omega arith, rw sub-zero, rw sub-zero (omega arith))
 
 add-sum : tie.Need-add-sum Inv-loop μ-loop
-add-sum c = omega (arith, width-byte (c .before .before .before .before .before .args .hidden) (c .before .before .segment-at .result) (search needs) (search needs), c .width .ensures)
+add-sum c =
+    let s = c .before .before .segment-at in
+    omega (arith, width-byte (c .before .before .before .before .before .args .hidden) (s .result) (search needs) (search needs), c .width .ensures)
 
 loop-again : tie.Need-loop-again Inv-loop μ-loop
 unfolding allFit total
