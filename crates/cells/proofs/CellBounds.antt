@@ -22,7 +22,7 @@ use Rattle.cells.specs.declared.Source.the-variants.{Background, Window}
 use Rattle.cells.specs.Attribute.{invokes, latches, ignores, cell}
 use Rattle.plan.specs.Layout.{width, total, boundary, Overlay, none, over, edgesFit, segmentsOn}
 use Rattle.plan.specs.declared.Side.the-variants.{Before, After}
-use Rattle.cells.specs.Cells.{Drawing, drawing, listAt, noList, withList, taking, put, character, examine, pair, codes, codeCount}
+use Rattle.cells.specs.Cells.{Drawing, drawing, listAt, noList, withList, taking, put, character, examine, wordCodes, codes, codeCount}
 use Rattle.cells.specs.Cells.{filled, fillByWord, fillTo, segment, segmentsTo, rowCells}
 use Rattle.plan.proofs.LayoutLaws.{clear, before-total, after-total, sides-length, side-short}
 use Rattle.plan.proofs.PlanBounds.{Inside}
@@ -58,20 +58,23 @@ module _ (σ : Settings) where
       (λ _. asks {n = 1} {k = 0} (le-refl 1) λ w _. dones (character-inked source end w code (drawing (taking (σ .linear) w (d .pen)) (d .cells)) h))
       (λ _. dones (character-inked source end (d .pen .latch) code d h))
 
-  pub pair-reads : (source : Source) (end w : ℕ) (d : Drawing) → Inked end d → Reads (Inked end) 2 (pair σ source end w d)
-  unfolding pair
-  pair-reads source end w d h =
-      bind {n = 1} {k = 1} (omega arith) (examine-reads source end (high w) d h) λ d₁ h₁. examine-reads source end (low w) d₁ h₁
+  -- a word's codes, one word each at most
+  each-examined : (source : Source) (end : ℕ) (cs : List ℕ) (d : Drawing) → Inked end d
+      → Reads (Inked end) (length cs) (each (examine σ source end) cs d)
+  unfolding each
+  each-examined source end [] d h = dones h
+  each-examined source end (c ∷ cs) d h =
+      bind {n = 1} {k = length cs} (omega arith) (examine-reads source end c d h) (each-examined source end cs)
 
   -- three words to two codes
   pub codes-read : (source : Source) (end n a : ℕ) (d : Drawing) → Inked end d → Reads (Inked end) ((3 * n + 1) / 2) (codes σ source end n a d)
-  unfolding codes _>>=_
+  unfolding codes wordCodes _>>=_
   codes-read source end zero a d h = dones h
-  codes-read source end (suc zero) a d h = asks {k = 1} (lit< tt) λ w _. examine-reads source end (high w) d h
+  codes-read source end (suc zero) a d h = asks {k = 1} (lit< tt) λ w _. each-examined source end (high w ∷ []) d h
   codes-read source end (suc (suc n)) a d h =
       let t = (3 * n + 1) / 2 in
       asks {n = (3 * suc (suc n) + 1) / 2} {k = t + 2} (omega arith) λ w _.
-      bind {n = 2} {k = t} (omega arith) (pair-reads source end w d h) λ d₁ h₁.
+      bind {n = 2} {k = t} (omega arith) (each-examined source end (high w ∷ low w ∷ []) d h) λ d₁ h₁.
       codes-read source end n (nextWord (σ .linear) a) d₁ h₁
 
 filled-at : (fill : FillMode) (end : ℕ) (d : Drawing) → Inked end d → At end (filled fill end d)

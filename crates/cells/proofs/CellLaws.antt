@@ -2,15 +2,17 @@
 use mathlib.Core.Path.{_≡_, refl, ap, ap₂, sym, _∙_}
 use mathlib.Core.List.{List, [], _∷_, _++_, append-assoc, append-nil}
 use mathlib.Core.Bool.{Bool, true, false, _&&_, _||_, not}
-use Prim.Native.Nat.{ℕ, suc, _+_, _-_, _<_, _≤_, zero-le}
+use Prim.Native.Nat.{ℕ, zero, suc, _+_, _-_, _<_, _≤_, zero-le, min}
 use native.Mathlib.Omega.{arith}
 use native.Mathlib.Nat.{sub-self}
-use lib.ListN.{length, take, set, replicate, replicate-append-replicate}
+use native.Mathlib.Numerals.{add-one}
+use lib.ListN.{length, getD, take, drop, set, replicate, replicate-append-replicate}
+use lib.Seq.{drop-cons}
 use lib.Dec.{ltb}
 use borrow.Author.Tests.{ltb-true, lt-ltb, le-ltb}
 use Rattle.memory.specs.declared.Fetch.the-variants.{Word, Absent}
 use Rattle.memory.specs.Word.{high, low}
-use Rattle.memory.specs.Reading.{Reading, done, refuse, ask, _>>=_, fetch, given, refused, runFrom}
+use Rattle.memory.specs.Reading.{_>>=_, each, fetch, given, refused, runFrom}
 use Rattle.memory.specs.Address.{nextWord}
 use Rattle.memory.proofs.Laws.{bind-given, bind-refused, run-done, run-refuse, ask-word, ask-absent}
 use Rattle.memory.proofs.ListLaws.{take-next}
@@ -23,7 +25,7 @@ use Rattle.cells.specs.declared.Pen.{Pen}
 use Rattle.cells.specs.declared.Drawn.{Drawn}
 use Rattle.cells.specs.declared.Drawn.the-variants.{Went, Refused}
 use Rattle.cells.specs.Attribute.{invokes, latches, ignores, cell}
-use Rattle.cells.specs.Cells.{Drawing, drawing, movedTo, taking, put, character, examine, pair, codes, filled, fillByWord, fillTo}
+use Rattle.cells.specs.Cells.{Drawing, drawing, movedTo, taking, put, character, examine, wordCodes, codes, filled, fillByWord, fillTo}
 use Rattle.cells.specs.Drawn.{soFar, Within, Reached}
 
 -- ---- cells in an array ----
@@ -87,46 +89,64 @@ module _ (n : ℕ) (m : List ℕ) (σ : Settings) (source : Source) (end : ℕ) 
     unfolding examine
     examine-latch t = rw t (run-done _ _ _)
 
-  module _ (w : ℕ) (d : Drawing) where
-    pub pair-refused : {i at : ℕ} → runFrom n m (examine σ source end (high w) d) ≡ refused i at → runFrom n m (pair σ source end w d) ≡ refused i at
-    unfolding pair
-    pair-refused e = bind-refused n m _ _ e
+  -- codes one after the other, from code i on of the n first ones
+  module _ (bytes : List ℕ) (k i : ℕ) (d : Drawing) where
+    abbrev left : List ℕ
+    left = take (k - i) (drop i bytes)
 
-    pub pair-given : {i : ℕ} {b : Drawing} → runFrom n m (examine σ source end (high w) d) ≡ given i b
-        → runFrom n m (pair σ source end w d) ≡ runFrom i m (examine σ source end (low w) b)
-    unfolding pair
-    pair-given e = bind-given n m _ _ e
+    one-more : i < k → k ≤ length bytes → left ≡ getD bytes i 0 ∷ take (k - (i + 1)) (drop (i + 1) bytes)
+    one-more h l =
+        let e : k - i ≡ suc (k - (i + 1)) = omega arith in
+        ap (λ (j : ℕ). take j (drop i bytes)) e ∙ rw (drop-cons bytes i 0 (omega arith), add-one i)
 
+    pub bytes-none : k ≡ i → runFrom n m (each (examine σ source end) left d) ≡ given n d
+    unfolding each
+    bytes-none h =
+        let e : k - i ≡ 0 = omega arith in
+        ap (λ (j : ℕ). runFrom n m (each (examine σ source end) (take j (drop i bytes)) d)) e ∙ run-done _ _ _
+
+    pub bytes-refused : {j at : ℕ} → i < k → k ≤ length bytes → runFrom n m (examine σ source end (getD bytes i 0) d) ≡ refused j at
+        → runFrom n m (each (examine σ source end) left d) ≡ refused j at
+    unfolding each
+    bytes-refused h l e = ap (λ (bs : List ℕ). runFrom n m (each (examine σ source end) bs d)) (one-more h l) ∙ bind-refused n m _ _ e
+
+    pub bytes-more : {j : ℕ} {b : Drawing} → i < k → k ≤ length bytes → runFrom n m (examine σ source end (getD bytes i 0) d) ≡ given j b
+        → runFrom n m (each (examine σ source end) left d)
+        ≡ runFrom j m (each (examine σ source end) (take (k - (i + 1)) (drop (i + 1) bytes)) b)
+    unfolding each
+    bytes-more h l e = ap (λ (bs : List ℕ). runFrom n m (each (examine σ source end) bs d)) (one-more h l) ∙ bind-given n m _ _ e
+
+  -- the codes of a segment: none; a word, with one or two of them
   module _ (a : ℕ) (d : Drawing) where
-    pub last-word : (x : ℕ) → fetch m a ≡ Word x → runFrom n m (codes σ source end 1 a d) ≡ runFrom (n + 1) m (examine σ source end (high x) d)
-    unfolding codes _>>=_
-    last-word x e = ask-word n m a _ x e
-
-    pub last-absent : fetch m a ≡ Absent → runFrom n m (codes σ source end 1 a d) ≡ refused 7 a
-    unfolding codes _>>=_
-    last-absent e = ask-absent n m a _ e
-
-  module _ (left a : ℕ) (d : Drawing) where
-    pub codes-none : left ≡ 0 → runFrom n m (codes σ source end left a d) ≡ given n d
+    pub codes-none : (left : ℕ) → left ≡ 0 → runFrom n m (codes σ source end left a d) ≡ given n d
     unfolding codes
-    codes-none h = ap (λ (i : ℕ). runFrom n m (codes σ source end i a d)) h ∙ run-done _ _ _
+    codes-none left h = ap (λ (i : ℕ). runFrom n m (codes σ source end i a d)) h ∙ run-done _ _ _
 
-    two-more : 1 < left → codes σ source end left a d ≡ ask a (λ w. pair σ source end w d >>= codes σ source end (left - 2) (nextWord (σ .linear) a))
+    pub codes-absent : (left : ℕ) → 0 < left → fetch m a ≡ Absent → runFrom n m (codes σ source end left a d) ≡ refused 7 a
     unfolding codes _>>=_
-    two-more h =
-        let e : left ≡ suc (suc (left - 2)) = omega arith in
-        ap (λ (i : ℕ). codes σ source end i a d) e
+    codes-absent zero h e = absurd (omega arith)
+    codes-absent (suc zero) h e = ask-absent n m a _ e
+    codes-absent (suc (suc k)) h e = ask-absent n m a _ e
 
-    pub codes-absent : 1 < left → fetch m a ≡ Absent → runFrom n m (codes σ source end left a d) ≡ refused 7 a
-    codes-absent h e = ap (runFrom n m) (two-more h) ∙ ask-absent n m a _ e
+    module _ (x : ℕ) (e : fetch m a ≡ Word x) where
+      pub codes-refused : (left : ℕ) {i at : ℕ} → 0 < left → runFrom (n + 1) m (wordCodes σ source end (min left 2) x d) ≡ refused i at
+          → runFrom n m (codes σ source end left a d) ≡ refused i at
+      unfolding codes _>>=_
+      codes-refused zero h r = absurd (omega arith)
+      codes-refused (suc zero) h r = ask-word n m a _ x e ∙ r
+      codes-refused (suc (suc k)) h r =
+          let two : min (suc (suc k)) 2 ≡ 2 = omega arith in
+          ask-word n m a _ x e ∙ bind-refused (n + 1) m _ _ (rw two at r)
 
-    pub codes-refused : {x i at : ℕ} → 1 < left → fetch m a ≡ Word x → runFrom (n + 1) m (pair σ source end x d) ≡ refused i at
-        → runFrom n m (codes σ source end left a d) ≡ refused i at
-    codes-refused h e r = ap (runFrom n m) (two-more h) ∙ ask-word n m a _ _ e ∙ bind-refused _ m _ _ r
-
-    pub codes-more : {x i : ℕ} {b : Drawing} → 1 < left → fetch m a ≡ Word x → runFrom (n + 1) m (pair σ source end x d) ≡ given i b
-        → runFrom n m (codes σ source end left a d) ≡ runFrom i m (codes σ source end (left - 2) (nextWord (σ .linear) a) b)
-    codes-more h e r = ap (runFrom n m) (two-more h) ∙ ask-word n m a _ _ e ∙ bind-given _ m _ _ r
+      pub codes-more : (left : ℕ) {i : ℕ} {b : Drawing} → 0 < left → runFrom (n + 1) m (wordCodes σ source end (min left 2) x d) ≡ given i b
+          → runFrom n m (codes σ source end left a d) ≡ runFrom i m (codes σ source end (left - min left 2) (nextWord (σ .linear) a) b)
+      unfolding codes _>>=_
+      codes-more zero h r = absurd (omega arith)
+      codes-more (suc zero) h r = ask-word n m a _ x e ∙ r ∙ sym (run-done _ _ _)
+      codes-more (suc (suc k)) h r =
+          let two : min (suc (suc k)) 2 ≡ 2 = omega arith in
+          let rest : suc (suc k) - min (suc (suc k)) 2 ≡ k = omega arith in
+          ask-word n m a _ x e ∙ bind-given (n + 1) m _ _ (rw two at r) ∙ rw rest
 
 -- ---- fill runs ----
 module _ (n : ℕ) (m : List ℕ) (σ : Settings) (fill : FillMode) (end : ℕ) (d : Drawing) where

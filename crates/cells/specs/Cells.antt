@@ -1,8 +1,8 @@
 -- Document 01, "A row, left to right": the walk that makes a row's cells.
 use Prim.Native.Nat.{ℕ, zero, suc, _+_, _-_}
 use mathlib.Core.Bool.{Bool, true, false, _&&_, _||_, not}
-use mathlib.Core.List.{List, [], _++_}
-use lib.ListN.{replicate}
+use mathlib.Core.List.{List, [], _∷_, _++_}
+use lib.ListN.{take, replicate}
 use lib.Dec.{ltb}
 use Rattle.memory.specs.Word.{if_then_else_, high, low}
 use Rattle.memory.specs.Reading.{Reading, done, refuse, word, _>>=_, each}
@@ -76,19 +76,19 @@ module _ (σ : Settings) where
       then (word (d .pen .list .next) >>= λ w. done (character (σ .hidden) source end w code (drawing (taking (σ .linear) w (d .pen)) (d .cells))))
       else done (character (σ .hidden) source end (d .pen .latch) code d)
 
-  -- "high byte of a word first"
-  unfoldable pub pair : Source → ℕ → ℕ → Drawing → Reading Drawing
-  pair source end w d = examine source end (high w) d >>= examine source end (low w)
+  -- the first n of a word's two codes: "high byte of a word first"
+  unfoldable pub wordCodes : Source → ℕ → ℕ → ℕ → Drawing → Reading Drawing
+  wordCodes source end n w d = each (examine source end) (take n (high w ∷ low w ∷ [])) d
 
   -- "All L codes are examined, high byte of a word first, ceil(L/2) words"
   unfoldable pub codes : Source → ℕ → ℕ → ℕ → Drawing → Reading Drawing
   codes source end zero a d = done d
   codes source end (suc zero) a d = do
     w ← word a
-    examine source end (high w) d
+    wordCodes source end 1 w d
   codes source end (suc (suc n)) a d = do
     w ← word a
-    d₁ ← pair source end w d
+    d₁ ← wordCodes source end 2 w d
     codes source end n (nextWord (σ .linear) a) d₁
 
 -- "With a null code pointer .. L has no meaning and no code is read."

@@ -8,16 +8,16 @@ use plan::layout;
 use settings::Settings;
 ghost use mathlib.Core.Path.{_≡_};
 ghost use mathlib.Core.Bool.{_||_, not};
-ghost use mathlib.Core.List.{_++_};
-ghost use Prim.Native.Nat.{_+_, _-_, _*_, _≤_, _<_};
-ghost use lib.ListN.{length, take, replicate};
-ghost use Rattle.memory.specs.Word.{if_then_else_};
+ghost use mathlib.Core.List.{[], _∷_, _++_};
+ghost use Prim.Native.Nat.{_+_, _-_, _*_, _≤_, _<_, min};
+ghost use lib.ListN.{length, getD, take, replicate};
+ghost use Rattle.memory.specs.Word.{if_then_else_, high, low};
 ghost use Rattle.memory.specs.Reading.{done, each, runFrom};
 ghost use Rattle.blocks.specs.RowBlock.{segmentsOf};
 ghost use Rattle.plan.specs.Layout.{width, total, over, segmentsOn};
 ghost use Rattle.plan.specs.Plan.{overlayOf};
 ghost use Rattle.cells.specs.Attribute.{invokes, ignores, sourceNumber, cell};
-ghost use Rattle.cells.specs.Cells.{codeCount, listAt, usingList, movedTo, taking, character, examine, pair, codes, filled, fillByWord, fillTo, segment, segmentsTo, rowCells, blank};
+ghost use Rattle.cells.specs.Cells.{codeCount, listAt, usingList, movedTo, taking, character, examine, wordCodes, codes, filled, fillByWord, fillTo, segment, segmentsTo, rowCells, blank};
 ghost use Rattle.cells.specs.Drawn.{soFar, drawn, Within, Reached, Drawable};
 
 // Where a cell comes from.
@@ -346,14 +346,15 @@ fn draw_codes(
     let mut at = a;
     let mut hand = pen;
     let mut read = words;
-    while 1 < left {
+    while 0 < left {
         let Fetch::Word(w) = memory::word_at(mem, at) else {
             return Drawn::Refused {
                 number: 7,
                 address: at,
             };
         };
-        match draw_pair(mem, settings, source, end, w, hand, read + 1, cells) {
+        let n = codes_in_word(left);
+        match draw_word(mem, settings, source, end, w, n, hand, read + 1, cells) {
             Drawn::Refused { number, address } => return Drawn::Refused { number, address },
             Drawn::Went {
                 pen: after,
@@ -364,69 +365,50 @@ fn draw_codes(
             }
         }
         at = memory::next_word(settings.linear, at);
-        left -= 2;
+        left -= n;
     }
-    if left == 0 {
-        return Drawn::Went {
-            pen: hand,
-            words: read,
-        };
-    }
-    draw_last(mem, settings, source, end, at, hand, read, cells)
-}
-
-// The last code of an odd count: the high byte of its word.
-fn draw_last(
-    mem: &[u16],
-    settings: Settings,
-    source: Source,
-    end: usize,
-    a: u32,
-    pen: Pen,
-    words: u32,
-    cells: &mut [u32],
-) -> Drawn
-    requires { ⌜ (end ≤ length (now cells)) × (pen .column ≤ end) × (words ≤ 4100000000) ⌝ }
-    ensures { λ r. ⌜ Within end (words + 2) r ⌝ }
-    ensures { λ r. ⌜ drawn r (now (cells .exit)) ≡ runFrom words (now (mem .entry)) (codes settings source end 1 a (soFar pen (now (cells .entry)))) ⌝ }
-{
-    match memory::word_at(mem, a) {
-        Fetch::Word(w) => {
-            let code = memory::high_byte(w);
-            examine_code(mem, settings, source, end, code, pen, words + 1, cells)
-        }
-        Fetch::Absent => Drawn::Refused {
-            number: 7,
-            address: a,
-        },
+    Drawn::Went {
+        pen: hand,
+        words: read,
     }
 }
 
-// The two codes of a word.
-fn draw_pair(
+// The first `n` of a word's two codes. One call for both keeps the loop over the codes in one piece.
+fn draw_word(
     mem: &[u16],
     settings: Settings,
     source: Source,
     end: usize,
     w: u16,
+    n: u32,
     pen: Pen,
     words: u32,
     cells: &mut [u32],
 ) -> Drawn
-    requires { ⌜ (end ≤ length (now cells)) × (pen .column ≤ end) × (words ≤ 4100000000) ⌝ }
-    ensures { λ r. ⌜ Within end (words + 2) r ⌝ }
-    ensures { λ r. ⌜ drawn r (now (cells .exit)) ≡ runFrom words (now (mem .entry)) (pair settings source end w (soFar pen (now (cells .entry)))) ⌝ }
+    requires { ⌜ (end ≤ length (now cells)) × (pen .column ≤ end) × (n ≤ 2) × (words ≤ 4100000000) ⌝ }
+    ensures { λ r. ⌜ Within end (words + n) r ⌝ }
+    ensures { λ r. ⌜ drawn r (now (cells .exit)) ≡ runFrom words (now (mem .entry)) (wordCodes settings source end n w (soFar pen (now (cells .entry)))) ⌝ }
 {
-    let first = memory::high_byte(w);
-    match examine_code(mem, settings, source, end, first, pen, words, cells) {
-        Drawn::Refused { number, address } => Drawn::Refused { number, address },
-        Drawn::Went {
-            pen: after,
-            words: read,
-        } => {
-            let second = memory::low_byte(w);
-            examine_code(mem, settings, source, end, second, after, read, cells)
+    let mut i = 0;
+    let mut hand = pen;
+    let mut read = words;
+    while i < n {
+        let code = code_at(w, i);
+        match examine_code(mem, settings, source, end, code, hand, read, cells) {
+            Drawn::Refused { number, address } => return Drawn::Refused { number, address },
+            Drawn::Went {
+                pen: after,
+                words: so_far,
+            } => {
+                hand = after;
+                read = so_far;
+            }
         }
+        i += 1;
+    }
+    Drawn::Went {
+        pen: hand,
+        words: read,
     }
 }
 
@@ -653,6 +635,25 @@ fn take_word(linear: bool, w: u16, pen: Pen) -> Pen
             latched: pen.latched,
             list,
         }
+    }
+}
+
+// How many codes a word has, of those left.
+fn codes_in_word(left: u32) -> u32
+    ensures { λ r. ⌜ r ≡ min left 2 ⌝ }
+{
+    if left < 2 { left } else { 2 }
+}
+
+// Code `i` of a word, the high byte first.
+fn code_at(w: u16, i: u32) -> u8
+    requires { ⌜ i < 2 ⌝ }
+    ensures { λ r. ⌜ r ≡ getD (high w ∷ low w ∷ []) i 0 ⌝ }
+{
+    if i == 0 {
+        memory::high_byte(w)
+    } else {
+        memory::low_byte(w)
     }
 }
 

@@ -31,7 +31,7 @@ use Rattle.plan.specs.State as S
 use Rattle.cells.specs.Attribute.{invokes, sourceNumber, cell}
 use Rattle.plan.specs.Layout.{width, total, allFit, boundary, edgesFit, covered, onSide, segmentsOn}
 use Rattle.plan.specs.Plan.{windowRow, overlaid, nextFields, backgroundRow, plan}
-use Rattle.cells.specs.Cells.{taking, put, character, examine, pair, codes, filled, fillByWord, fillTo, segment, segmentsTo, rowCells}
+use Rattle.cells.specs.Cells.{taking, put, character, examine, wordCodes, codes, filled, fillByWord, fillTo, segment, segmentsTo, rowCells}
 use Rattle.row.specs.Row.{Called, row, withCursor, rowCall}
 use Rattle.row.specs.Start.{firstFields, windowStart, startFrom, startCall}
 use Rattle.effect.specs.declared.Part.{Part}
@@ -253,5 +253,5 @@ tests =
     ∷ []
 
 pub marked : every tests ≡ true
-unfolding same every shownAs shown cellsFrom partShown times settings sheetS memoryS at stateOfStart wordsOfStart stateAfter buffer firstRow clearPart setPart row0 row1 padded page one two plain video nine ten twelve windowOn inHand tests _>>=_ each runFrom pointer nextWord ahead words good timing linesForRows clocks halved invokingCodes sheetOf sheetCall ones onesIn mainBlock mainBlockAt segmentOf segmentsOf restOfBlock blockAt rowBlockAt windowRowAt formatOf redefined W.windowOf W.windowAt W.firstWindow W.dueWindow S.windowInRange S.inRange invokes sourceNumber cell width total allFit boundary edgesFit covered onSide segmentsOn windowRow overlaid nextFields backgroundRow plan taking put character examine pair codes filled fillByWord fillTo segment segmentsTo rowCells row withCursor rowCall firstFields windowStart startFrom startCall outcomeFor effectCall
+unfolding same every shownAs shown cellsFrom partShown times settings sheetS memoryS at stateOfStart wordsOfStart stateAfter buffer firstRow clearPart setPart row0 row1 padded page one two plain video nine ten twelve windowOn inHand tests _>>=_ each runFrom pointer nextWord ahead words good timing linesForRows clocks halved invokingCodes sheetOf sheetCall ones onesIn mainBlock mainBlockAt segmentOf segmentsOf restOfBlock blockAt rowBlockAt windowRowAt formatOf redefined W.windowOf W.windowAt W.firstWindow W.dueWindow S.windowInRange S.inRange invokes sourceNumber cell width total allFit boundary edgesFit covered onSide segmentsOn windowRow overlaid nextFields backgroundRow plan taking put character examine wordCodes codes filled fillByWord fillTo segment segmentsTo rowCells row withCursor rowCall firstFields windowStart startFrom startCall outcomeFor effectCall
 marked = refl

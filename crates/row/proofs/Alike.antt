@@ -22,7 +22,7 @@ use Rattle.plan.specs.State.{stateOf}
 use Rattle.cells.specs.Attribute.{invokes, latches, ignores}
 use Rattle.plan.specs.Layout.{width, Overlay, none, over}
 use Rattle.plan.specs.Plan.{Plan, plan}
-use Rattle.cells.specs.Cells.{Drawing, drawing, blank, noList, listAt, withList, taking, put, character, examine, pair, codes}
+use Rattle.cells.specs.Cells.{Drawing, drawing, blank, noList, listAt, withList, taking, put, character, examine, wordCodes, codes}
 use Rattle.cells.specs.Cells.{filled, fillByWord, fillTo, segment, segmentsTo, rowCells}
 use Rattle.row.specs.Row.{Row, drawnBy, row}
 
@@ -90,25 +90,25 @@ module _ (l₁ l₂ : ℕ) (same : ignores l₁ ≡ ignores l₂) (σ : Settings
       (asks λ w. dones (character-alike source end w w code refl _ _ (taking-alike l₁ l₂ (σ .linear) w _ _ r)))
       (dones (character-alike source end _ _ code (held-ignores h) _ _ r))
 
-  pair-keeps : (source : Source) (end w : ℕ) → Keeps l₁ l₂ (pair σ source end w)
-  unfolding pair
-  pair-keeps source end w d e r = bind (examine-keeps source end (high w) d e r) (examine-keeps source end (low w))
+  word-keeps : (source : Source) (end n w : ℕ) → Keeps l₁ l₂ (wordCodes σ source end n w)
+  unfolding wordCodes
+  word-keeps source end n w = each-rel (examine-keeps source end) _
 
   codes-keeps : (source : Source) (end n a : ℕ) → Keeps l₁ l₂ (codes σ source end n a)
   unfolding codes _>>=_
   codes-keeps source end zero a d e r = dones r
-  codes-keeps source end (suc zero) a d e r = asks λ w. examine-keeps source end (high w) d e r
+  codes-keeps source end (suc zero) a d e r = asks λ w. word-keeps source end 1 w d e r
   codes-keeps source end (suc (suc n)) a d e r =
-      asks λ w. bind (pair-keeps source end w d e r) (codes-keeps source end n (nextWord (σ .linear) a))
+      asks λ w. bind (word-keeps source end 2 w d e r) (codes-keeps source end n (nextWord (σ .linear) a))
 
   module _ (fill : FillMode) where
     filled-alike : (end : ℕ) (d e : Drawing) → Alike l₁ l₂ d e → Alike l₁ l₂ (filled fill end d) (filled fill end e)
     unfolding filled
     filled-alike end d e (alike c u xs ys h) = put-alike l₁ l₂ (end - c) _ _ _ _ (alike c u xs ys h)
 
-    word-keeps : (end : ℕ) → Keeps l₁ l₂ (fillByWord σ fill end)
+    fill-word-keeps : (end : ℕ) → Keeps l₁ l₂ (fillByWord σ fill end)
     unfolding fillByWord _>>=_
-    word-keeps end d e (alike c u xs ys h) =
+    fill-word-keeps end d e (alike c u xs ys h) =
         asks λ w. if-rel (Rel (Alike l₁ l₂)) (latches w)
         (dones (filled-alike end _ _ (taking-alike l₁ l₂ (σ .linear) w _ _ (alike c u xs ys h)))) refuses
 
@@ -117,7 +117,7 @@ module _ (l₁ l₂ : ℕ) (same : ignores l₁ ≡ ignores l₂) (σ : Settings
     fill-keeps end d e (alike c u xs ys h) =
         let r = alike c u xs ys h in
         if-rel (Rel (Alike l₁ l₂)) (ltb c end)
-        (if-rel (Rel (Alike l₁ l₂)) (fill .flag && u .present) (word-keeps end _ _ r) (dones (filled-alike end _ _ r))) (dones r)
+        (if-rel (Rel (Alike l₁ l₂)) (fill .flag && u .present) (fill-word-keeps end _ _ r) (dones (filled-alike end _ _ r))) (dones r)
 
     segment-keeps : (source : Source) (g : Segment) → Keeps l₁ l₂ (segment σ fill source g)
     unfolding segment
