@@ -33,9 +33,13 @@ latchWith true = 0x2000
 unfoldable pub outcomeFor : Settings → List ℕ → Fields → Bool → Outcome Row
 outcomeFor σ m f ignore = run m (row σ (stateOf (latchWith ignore) f))
 
+-- the answer, from the row's outcomes with ignore clear and with it set
+abbrev pub effectOf : Fields → Outcome Row → Outcome Row → EffectAnswer
+effectOf f clear set = record {
+  effect = record { clear = partOf f clear; set = partOf f set };
+  next = nextOf clear (nextOf set Unreached);
+}
+
 -- "A row's effect doesn't depend on the state's latch; it takes a row's checks but 1"
 unfoldable pub effectCall : Settings → List ℕ → Fields → EffectAnswer
-effectCall σ m f = record {
-  effect = record { clear = partOf f (outcomeFor σ m f false); set = partOf f (outcomeFor σ m f true) };
-  next = nextOf (outcomeFor σ m f false) (nextOf (outcomeFor σ m f true) Unreached);
-}
+effectCall σ m f = effectOf f (outcomeFor σ m f false) (outcomeFor σ m f true)

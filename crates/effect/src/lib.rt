@@ -1,6 +1,15 @@
 // Effects of rows on the latch.
 use memory::Refusal;
 use plan::Fields;
+use plan::PlanAnswer;
+use row::RowDrawn;
+use settings::Settings;
+ghost use mathlib.Core.Path.{_≡_};
+ghost use mathlib.Core.List.{List};
+ghost use Prim.Native.Nat.{ℕ};
+ghost use Rattle.row.specs.Row.{rowDrawn};
+ghost use Rattle.effect.specs.Join.{partFor, setThen, joinPart, join, apply};
+ghost use Rattle.effect.specs.Effect.{partOf, nextOf, effectOf, effectCall};
 
 // What a row does to the latch: keep it, set it to a word, or refuse.
 pub enum Part {
@@ -31,4 +40,136 @@ pub enum NextFields {
 pub struct EffectAnswer {
     pub effect: Effect,
     pub next: NextFields,
+}
+
+impl Effect {
+    // The empty effect: it keeps in both parts.
+    pub const EMPTY: Effect = Effect {
+        clear: Part::Keep,
+        set: Part::Keep,
+    };
+
+    // This effect, and then `next`.
+    pub fn join(self, next: Effect) -> Effect
+        ensures { λ r. ⌜ r ≡ join self next ⌝ }
+    {
+        let p = self.clear;
+        let q = self.set;
+        let clear = join_part(p, false, next);
+        let set = join_part(q, true, next);
+        Effect { clear, set }
+    }
+
+    // What the effect makes of a latch.
+    pub fn apply(self, latch: u16) -> Applied
+        ensures { λ r. ⌜ r ≡ apply self latch ⌝ }
+    {
+        match part_for(memory::bit_13(latch), self) {
+            Part::Keep => Applied::Latch(latch),
+            Part::Set(w) => Applied::Latch(w),
+            Part::Refuse(r) => Applied::Refused(r),
+        }
+    }
+}
+
+// The effect of a row, with the next state's fields: its plan once, and its cells from a latch with ignore clear and from one
+// with it set.
+pub fn row_effect(settings: Settings, mem: &[u16], fields: Fields) -> EffectAnswer
+    ensures { λ r. ⌜ r ≡ effectCall settings (now (mem .entry)) fields ⌝ }
+{
+    let mut back = [0u16; 75];
+    let mut window = [0u16; 75];
+    match plan::plan_row(mem, settings, fields, &mut back, &mut window) {
+        PlanAnswer::Refused { number, address } => {
+            let refused = RowDrawn::Refused { number, address };
+            effect_of(fields, refused, refused)
+        }
+        PlanAnswer::Planned(p) => {
+            let fill = fields.fill;
+            let mut cells = [0u32; 132];
+            let clear = row::draw_plan(settings, mem, fill, p, &back, &window, 0, &mut cells);
+            let set = row::draw_plan(settings, mem, fill, p, &back, &window, 0x2000, &mut cells);
+            effect_of(fields, clear, set)
+        }
+    }
+}
+
+// The answer of an effect call, from the row with ignore clear and the row with it set.
+fn effect_of(fields: Fields, clear: RowDrawn, set: RowDrawn) -> EffectAnswer
+    ensures { λ r. ⌜ ((xs ys : List ℕ) → r ≡ effectOf fields (rowDrawn clear xs) (rowDrawn set ys)) ⌝ }
+{
+    let effect = Effect {
+        clear: part_of(fields, clear),
+        set: part_of(fields, set),
+    };
+    let next = next_of(clear, next_of(set, NextFields::Unreached));
+    EffectAnswer { effect, next }
+}
+
+// The part that a row has, drawn from a latch of its ignore.
+fn part_of(fields: Fields, d: RowDrawn) -> Part
+    ensures { λ r. ⌜ ((cs : List ℕ) → r ≡ partOf fields (rowDrawn d cs)) ⌝ }
+{
+    match d {
+        RowDrawn::Refused { number, address } => Part::Refuse(Refusal {
+            number,
+            row: fields.row,
+            address,
+        }),
+        RowDrawn::Went { end, words: _ } => {
+            if end.pen.latched {
+                Part::Set(end.pen.latch)
+            } else {
+                Part::Keep
+            }
+        }
+    }
+}
+
+// The next state's fields, or those given where the row is refused.
+fn next_of(d: RowDrawn, otherwise: NextFields) -> NextFields
+    ensures { λ r. ⌜ ((cs : List ℕ) → r ≡ nextOf (rowDrawn d cs) otherwise) ⌝ }
+{
+    match d {
+        RowDrawn::Refused {
+            number: _,
+            address: _,
+        } => otherwise,
+        RowDrawn::Went { end, words: _ } => {
+            let next = end.next;
+            NextFields::Reached(next)
+        }
+    }
+}
+
+// The part for an incoming latch, by its ignore.
+fn part_for(ignore: bool, e: Effect) -> Part
+    ensures { λ r. ⌜ r ≡ partFor ignore e ⌝ }
+{
+    if ignore { e.set } else { e.clear }
+}
+
+// A part, for an incoming latch of this ignore, and then an effect.
+fn join_part(p: Part, ignore: bool, next: Effect) -> Part
+    ensures { λ r. ⌜ r ≡ joinPart p ignore next ⌝ }
+{
+    match p {
+        Part::Refuse(r) => Part::Refuse(r),
+        Part::Keep => part_for(ignore, next),
+        Part::Set(w) => {
+            let ignores = memory::bit_13(w);
+            set_then(w, part_for(ignores, next))
+        }
+    }
+}
+
+// The latch set to a word, and then a part.
+fn set_then(w: u16, p: Part) -> Part
+    ensures { λ r. ⌜ r ≡ setThen w p ⌝ }
+{
+    match p {
+        Part::Keep => Part::Set(w),
+        Part::Set(v) => Part::Set(v),
+        Part::Refuse(r) => Part::Refuse(r),
+    }
 }

@@ -9,8 +9,12 @@ use lib.Seq.{set-out, take-all}
 use lib.Dec.{ltb, lit≤}
 use borrow.Author.Tests.{ltb-false}
 use Rattle.memory.specs.Word.{if_then_else_}
+use Rattle.memory.specs.Reading.{given, run}
+use Rattle.memory.proofs.ReadBounds.{Words, reads-given}
+use Rattle.settings.specs.declared.Settings.{Settings}
+use Rattle.plan.specs.declared.Fields.{Fields}
 use Rattle.plan.specs.Layout.{Overlay, none, over}
-use Rattle.plan.specs.Plan.{Plan}
+use Rattle.plan.specs.Plan.{Plan, plan}
 use Rattle.plan.proofs.PlanBounds as Bounds
 use Rattle.cells.specs.Drawn.{Inside, Drawable}
 
@@ -19,8 +23,14 @@ inside : (hidden : Bool) (o : Overlay) → Bounds.Inside hidden o → Inside hid
 inside hidden none h = lit≤ tt
 inside hidden (over first end ws) h = (h .1, h .2)
 
-pub drawable : (hidden : Bool) (p : Plan) → Bounds.Sound hidden p → Drawable hidden (p .overlay) (p .segments)
+drawable : (hidden : Bool) (p : Plan) → Bounds.Sound hidden p → Drawable hidden (p .overlay) (p .segments)
 drawable hidden p s = record { narrow = s .narrow; inside = inside hidden (p .overlay) (s .inside); edges = s .edges }
+
+-- what a row's plan, once given, lets the cells rely on
+pub plan-drawable : (σ : Settings) (m : List ℕ) → Words m → (f : Fields) {n : ℕ} {p : Plan} → given n p ≡ run m (plan σ f)
+    → Drawable (σ .hidden) (p .overlay) (p .segments) × (n ≤ 1000)
+plan-drawable σ m b f {p = p} e =
+    let k = reads-given 0 m b (Bounds.plan-reads σ f) (sym e) in (drawable (σ .hidden) p (k .1), omega (arith, k .0))
 
 -- a mark past the cells changes nothing
 pub mark-off : (b : Bool) (x v : ℕ) (cs : List ℕ) → b && ltb x 132 ≡ false → length cs ≡ 132 → cs ≡ (if b then set cs x v else cs)

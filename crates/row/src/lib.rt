@@ -124,7 +124,7 @@ pub fn start(settings: Settings, mem: &[u16]) -> StartAnswer
 }
 
 // The cells of a planned row.
-fn draw_plan(
+pub fn draw_plan(
     settings: Settings,
     mem: &[u16],
     fill: FillMode,

@@ -1,10 +1,7 @@
 use mathlib.Core.Path.{sym, _∙_}
-use native.Mathlib.Omega.{arith}
 use Rattle.memory.proofs.Laws.{bind-given, bind-refused}
-use Rattle.memory.proofs.ReadBounds.{reads-given}
-use Rattle.plan.proofs.PlanBounds.{plan-reads}
 use Rattle.row.specs.Row.{row}
-use Rattle.row.proofs.RowLaws.{drawable}
+use Rattle.row.proofs.RowLaws.{plan-drawable}
 use borrow.Author.Needs.{needs}
 use Rattle.row.proofs.draw_row.Statement.{statement}
 use Rattle.row.proofs.draw_row.Tie as tie
@@ -12,9 +9,9 @@ use Rattle.row.proofs.draw_row.Tie as tie
 draw-plan-requires : tie.Need-draw-plan-requires
 draw-plan-requires c κs =
     let a = c .before .before .before .before .before .before .before .before .before .before .before .before .args in
-    let e = sym (rw (c .before .before .before .before .before .p .given .1) at (c .before .before .before .before .before .before .before .plan-row .ensures)) in
-    let k = reads-given 0 (a .mem .now) (λ i. c .before .before .before .before .before .before .before .before .before .before .before .shared-slice-known .given i .fits) (plan-reads (a .settings) (a .fields)) e in
-    (drawable (a .settings .hidden) _ (k .1), (omega (arith, k .0), c .before .before .before .before .before .before .before .before .before .before .before .before .pre))
+    let k = plan-drawable (a .settings) (a .mem .now) (λ i. c .before .before .before .before .before .before .before .before .before .before .before .shared-slice-known .given i .fits) (a .fields)
+    (rw (c .before .before .before .before .before .p .given .1) at (c .before .before .before .before .before .before .before .plan-row .ensures)) in
+    (k .0, (k .1, c .before .before .before .before .before .before .before .before .before .before .before .before .pre))
 
 returns : tie.Need-returns
 unfolding row
