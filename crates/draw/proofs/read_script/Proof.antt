@@ -1,0 +1,34 @@
+use mathlib.Core.Path.{_≡_}
+use Prim.Native.Nat.{_-_}
+use lib.ListN.{length}
+use borrow.Author.Needs.{needs}
+use Rattle.draw.proofs.read_script.Statement.{statement}
+use Rattle.draw.proofs.read_script.Tie as tie
+
+abbrev Inv-loop : tie.InvT-loop
+Inv-loop mem₀ script₀ turns₀ mem script turns = length mem ≡ length mem₀
+
+abbrev μ-loop : tie.MeasureT-loop
+μ-loop mem₀ script₀ turns₀ mem script turns = 1099511627776 - turns
+
+pub read-script-spec : {M : Type 1} → statement M
+read-script-spec =
+    tie.close
+    (tie.spec
+    Inv-loop
+    μ-loop
+    (λ c κs. search needs)
+    (λ c. search needs)
+    (λ c κs. search needs)
+    (λ c. search needs)
+    (λ c. search needs)
+    (λ c. search needs)
+    (λ c. search needs)
+    (λ c. search needs)
+    (λ c. search needs)
+    (λ c. search needs)
+    (λ c. search needs)
+    (λ c. search needs)
+    (λ c. search needs)
+    (λ c. search needs)
+    (λ c. search needs))

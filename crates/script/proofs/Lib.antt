@@ -1,0 +1,4 @@
+pub mod KindLaws
+pub mod FeedLaws
+pub mod LengthLaws
+pub mod TextLaws

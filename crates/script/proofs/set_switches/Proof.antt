@@ -1,0 +1,16 @@
+use native.Mathlib.Nat.{div-one}
+use Rattle.script.specs.Records.{switched}
+use borrow.Author.Needs.{needs}
+use Rattle.script.proofs.set_switches.Statement.{statement}
+use Rattle.script.proofs.set_switches.Tie as tie
+
+returns : tie.Need-returns
+unfolding switched
+returns c = rw (c .before .before .interlace-of .ensures, div-one)
+
+pub set-switches-spec : {M : Type 1} → statement M
+set-switches-spec =
+    tie.close
+    (tie.spec
+    (λ c κs. search needs)
+    returns)

@@ -1,0 +1,4 @@
+pub mod Records
+pub mod Script
+pub mod Lines
+pub mod SheetS
