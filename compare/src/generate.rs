@@ -1,0 +1,1023 @@
+//! Seeded random cases: settings, structured memories, states, row buffers and scripts,
+//! sound ones and damaged ones.
+
+use crate::rules::{self, Fields, Interlace, Settings, State, Window, CELLS};
+use crate::script;
+
+/// A xorshift generator.
+#[derive(Clone)]
+pub struct Rng(u64);
+
+impl Rng {
+    pub fn new(seed: u64) -> Rng {
+        let mut rng = Rng(seed.wrapping_mul(0x9E37_79B9_7F4A_7C15) ^ 0x2545_F491_4F6C_DD1D);
+        if rng.0 == 0 {
+            rng.0 = 1;
+        }
+        for _ in 0..8 {
+            rng.draw();
+        }
+        rng
+    }
+
+    pub fn draw(&mut self) -> u64 {
+        self.0 ^= self.0 << 13;
+        self.0 ^= self.0 >> 7;
+        self.0 ^= self.0 << 17;
+        self.0.wrapping_mul(0x2545_F491_4F6C_DD1D) >> 16
+    }
+
+    pub fn word(&mut self) -> u16 {
+        self.draw() as u16
+    }
+
+    /// A number below `end`, which is not 0.
+    pub fn below(&mut self, end: usize) -> usize {
+        (self.draw() % end as u64) as usize
+    }
+
+    /// A number from `low` to `high`, both included.
+    pub fn range(&mut self, low: usize, high: usize) -> usize {
+        low + self.below(high - low + 1)
+    }
+
+    /// True once in `times`.
+    pub fn once_in(&mut self, times: usize) -> bool {
+        self.below(times) == 0
+    }
+
+    pub fn pick<T: Copy>(&mut self, among: &[T]) -> T {
+        among[self.below(among.len())]
+    }
+}
+
+/// How large generated frames are.
+#[derive(Clone, Copy, Debug)]
+pub struct Shape {
+    /// Words of memory.
+    pub memory: usize,
+    /// Most row blocks in the chain.
+    pub rows: usize,
+    /// Most scan lines for rows.
+    pub lines: usize,
+    /// Most shown columns.
+    pub columns: usize,
+    /// How many cases in a hundred are damaged.
+    pub damaged: usize,
+}
+
+impl Shape {
+    /// Memory of any length below one page.
+    pub const fn words(memory: usize) -> Shape {
+        Shape {
+            memory,
+            rows: 10,
+            lines: 90,
+            columns: 132,
+            damaged: 40,
+        }
+    }
+
+    /// The draw program's memory, with few rows and columns.
+    pub const SCRIPT: Shape = Shape {
+        memory: script::MEMORY,
+        rows: 5,
+        lines: 40,
+        columns: 20,
+        damaged: 40,
+    };
+
+    /// Two pages and a part of a third: lists can cross page ends.
+    pub const PAGES: Shape = Shape {
+        memory: 70_000,
+        rows: 8,
+        lines: 90,
+        columns: 132,
+        damaged: 25,
+    };
+
+    /// All that 24 bits address: lists can also wrap at FFFFFE.
+    pub const WHOLE: Shape = Shape {
+        memory: 0x80_0000,
+        rows: 8,
+        lines: 90,
+        columns: 132,
+        damaged: 25,
+    };
+}
+
+/// What a list of calls begins with.
+#[derive(Clone, Debug)]
+pub struct Case {
+    pub settings: Settings,
+    pub memory: Vec<u16>,
+    /// The state to begin with, or the start's.
+    pub state: Option<State>,
+    /// Cells in the row buffer of each call.
+    pub buffers: Vec<usize>,
+}
+
+/// A fault put into a frame while it is built.
+#[derive(Clone, Copy, Debug, PartialEq, Eq)]
+enum Fault {
+    None,
+    VisibleAboveLength,
+    WideRow,
+    WideWindow,
+    LooseEdge,
+    WindowRows,
+    WindowOrder,
+    WindowColumns,
+    FillWord,
+    NullTop,
+    FarPointer,
+    Words,
+    Truncated,
+    Settings,
+}
+
+const FAULTS: [Fault; 13] = [
+    Fault::VisibleAboveLength,
+    Fault::WideRow,
+    Fault::WideWindow,
+    Fault::LooseEdge,
+    Fault::WindowRows,
+    Fault::WindowOrder,
+    Fault::WindowColumns,
+    Fault::FillWord,
+    Fault::NullTop,
+    Fault::FarPointer,
+    Fault::Words,
+    Fault::Truncated,
+    Fault::Settings,
+];
+
+const PAGE: usize = 0x8000;
+const ADDRESSABLE: usize = 0x80_0000;
+
+/// Memory under construction.
+struct Image {
+    linear: bool,
+    memory: Vec<u16>,
+    /// Word number from which blocks are laid one after another.
+    next: usize,
+    /// Word numbers after a page end, or after FFFFFE, that one block or list may cross.
+    ends: Vec<usize>,
+    written: Vec<usize>,
+}
+
+impl Image {
+    fn new(rng: &mut Rng, linear: bool, words: usize) -> Image {
+        let mut ends = Vec::new();
+        let mut next = 1 + rng.below(16);
+        let pages = words / PAGE;
+        if pages > 0 {
+            next = rng.below(pages) * PAGE + 700;
+            for _ in 0..3 {
+                let end = (1 + rng.below(pages)) * PAGE;
+                if !ends.contains(&end) {
+                    ends.push(end);
+                }
+            }
+            if words >= ADDRESSABLE && !ends.contains(&ADDRESSABLE) {
+                ends.push(ADDRESSABLE);
+            }
+        }
+        Image {
+            linear,
+            memory: vec![0; words],
+            next,
+            ends,
+            written: Vec::new(),
+        }
+    }
+
+    /// An address for a block or list of so many words.
+    fn place(&mut self, rng: &mut Rng, words: usize) -> u32 {
+        if words > 1 && !self.ends.is_empty() && rng.once_in(6) {
+            let n = rng.below(self.ends.len());
+            let end = self.ends.swap_remove(n);
+            return (end - rng.range(1, words - 1).min(500)) as u32 * 2;
+        }
+        let gap = if rng.once_in(4) { rng.below(4) } else { 0 };
+        let index = (self.next + gap) % ADDRESSABLE;
+        self.next = index + words;
+        (index.max(1) * 2) as u32
+    }
+
+    /// Writes what of the words lies in memory.
+    fn write(&mut self, mut address: u32, words: &[u16]) {
+        for &word in words {
+            let index = address as usize / 2;
+            if let Some(cell) = self.memory.get_mut(index) {
+                *cell = word;
+                self.written.push(index);
+            }
+            address = rules::step(self.linear, address);
+        }
+    }
+
+    fn put(&mut self, rng: &mut Rng, words: &[u16]) -> u32 {
+        let address = self.place(rng, words.len());
+        self.write(address, words);
+        address
+    }
+
+    /// A pointer's words, with noise in the bits that are ignored.
+    fn pointer(&self, rng: &mut Rng, address: u32) -> [u16; 2] {
+        let high = (address >> 16) as u16;
+        let noise = if rng.once_in(2) { rng.word() } else { 0 };
+        let first = if self.linear {
+            noise & 0xFF00 | high & 0xFF
+        } else {
+            noise & 0x80FF | (high & 0x7F) << 8
+        };
+        [first, address as u16 & !1 | (noise >> 4 & 1)]
+    }
+}
+
+/// A frame: settings, memory and where its blocks lie.
+struct Frame {
+    settings: Settings,
+    image: Image,
+    fault: Fault,
+    fill_flag: bool,
+    /// One code in this many invokes; 0 for none.
+    density: usize,
+    rows: Vec<u32>,
+    windows: Vec<u32>,
+    window_rows: Vec<u32>,
+    lists: Vec<u32>,
+}
+
+fn any_interlace(rng: &mut Rng) -> Interlace {
+    rng.pick(&[
+        Interlace::None,
+        Interlace::None,
+        Interlace::RepeatField,
+        Interlace::Video,
+    ])
+}
+
+/// Good settings with all but TOP and TOW.
+fn good_settings(rng: &mut Rng, shape: &Shape) -> Settings {
+    let interlace = any_interlace(rng);
+    let interlaced = interlace != Interlace::None;
+    let mut lines = rng.range(1, shape.lines.max(2));
+    if rng.once_in(2) {
+        lines = shape.lines.max(2);
+    }
+    let mut vsw = rng.below(64);
+    let mut vsd = rng.below(64);
+    if interlaced {
+        lines += lines & 1;
+        vsw |= 1;
+        vsd |= 1;
+    }
+    let val = vsd + lines;
+    let mut vtot = rng
+        .pick(&[val, val + 1, val + rng.0 as usize % 40, 4094])
+        .max(val);
+    if interlaced {
+        vtot += vtot & 1;
+    }
+    let columns = match rng.below(4) {
+        0 => shape.columns,
+        1 => 1,
+        _ => rng.range(1, shape.columns),
+    };
+    let hsd = rng.below(512);
+    let htd = hsd + columns;
+    let mut htc = rng.pick(&[htd, htd + 1, 1023]);
+    if interlaced {
+        htc |= 1;
+    }
+    let hsync = rng.below(htc.min(256));
+    let mask = rng.pick(&[
+        0x80,
+        0x80,
+        0xFF,
+        0xE0,
+        0x81,
+        0x01,
+        0x00,
+        rng.0 as u16 & 0xFF,
+    ]);
+    let value = if rng.once_in(3) {
+        rng.word() & 0xFF
+    } else {
+        rng.word() & mask
+    };
+    Settings {
+        linear: rng.once_in(2),
+        display_hidden: rng.once_in(4),
+        interlace,
+        cursor: !rng.once_in(4),
+        flag: mask << 8 | value,
+        top: [0; 2],
+        tow: [0; 2],
+        vsw: vsw as u16,
+        vsd: vsd as u16,
+        val: val as u16,
+        vtot: vtot as u16,
+        hsync: hsync as u16,
+        hsd: hsd as u16,
+        htc: htc as u16,
+        htd: htd as u16,
+    }
+}
+
+/// Settings with one number changed, usually out of order or range, or with another bit
+/// turned, which changes what the memory means.
+fn damage_settings(rng: &mut Rng, settings: &mut Settings) {
+    if rng.once_in(3) {
+        let bit = 1 << rng.below(16);
+        match rng.below(8) {
+            0 => settings.linear = !settings.linear,
+            1 => settings.display_hidden = !settings.display_hidden,
+            2 => settings.interlace = any_interlace(rng),
+            3 => settings.flag ^= bit,
+            4 => settings.top[0] ^= bit,
+            5 => settings.top[1] ^= bit,
+            6 => settings.tow[0] ^= bit,
+            _ => settings.tow[1] ^= bit,
+        }
+        return;
+    }
+    let number = match rng.below(8) {
+        0 => &mut settings.vsw,
+        1 => &mut settings.vsd,
+        2 => &mut settings.val,
+        3 => &mut settings.vtot,
+        4 => &mut settings.hsync,
+        5 => &mut settings.hsd,
+        6 => &mut settings.htc,
+        _ => &mut settings.htd,
+    };
+    match rng.below(4) {
+        0 => *number ^= 1 << rng.below(16),
+        1 => {
+            *number = rng.pick(&[
+                0, 63, 64, 255, 256, 511, 512, 1023, 1024, 4095, 4096, 0xFFFF,
+            ])
+        }
+        2 => *number = number.wrapping_add(1),
+        _ => *number = rng.word() & rng.pick(&[0x3F, 0xFFF, 0x1FF, 0x3FF, 0xFFFF]),
+    }
+}
+
+/// Splits a width at the given places and some more, with segments of no width between.
+fn split(rng: &mut Rng, total: usize, edges: &[usize]) -> Vec<usize> {
+    let mut cuts: Vec<usize> = edges
+        .iter()
+        .copied()
+        .filter(|&e| e > 0 && e < total)
+        .collect();
+    let extra = rng.pick(&[0, 0, 1, 2, 5, 12]);
+    for _ in 0..extra {
+        if total > 1 && cuts.len() < 14 {
+            cuts.push(rng.range(1, total - 1));
+        }
+    }
+    cuts.sort_unstable();
+    cuts.dedup();
+    cuts.truncate(14);
+    let mut widths = Vec::new();
+    let mut from = 0;
+    for cut in cuts {
+        widths.push(cut - from);
+        from = cut;
+    }
+    if total > from {
+        widths.push(total - from);
+    }
+    // Segments of no width, most of all at the edges.
+    let zeros = rng.pick(&[0, 0, 0, 1, 2, 4]);
+    for _ in 0..zeros {
+        if widths.len() < 15 {
+            let mut at = rng.below(widths.len() + 1);
+            if !edges.is_empty() && rng.once_in(2) {
+                let edge = rng.pick(edges);
+                let mut sum = 0;
+                for (n, width) in widths.iter().enumerate() {
+                    if sum == edge {
+                        at = n;
+                    }
+                    sum += width;
+                }
+            }
+            widths.insert(at, 0);
+        }
+    }
+    if rng.once_in(12) {
+        while widths.len() < 15 {
+            widths.push(0);
+        }
+    }
+    widths
+}
+
+impl Frame {
+    fn new(rng: &mut Rng, shape: &Shape, fault: Fault) -> Frame {
+        let settings = good_settings(rng, shape);
+        let image = Image::new(rng, settings.linear, shape.memory);
+        let mut frame = Frame {
+            settings,
+            image,
+            fault,
+            fill_flag: rng.once_in(2) || fault == Fault::FillWord,
+            density: rng.pick(&[0, 1, 2, 3, 3, 3, 8, 20]),
+            rows: Vec::new(),
+            windows: Vec::new(),
+            window_rows: Vec::new(),
+            lists: Vec::new(),
+        };
+        frame.build(rng, shape);
+        frame
+    }
+
+    /// Whether the frame's fault is this one and falls on this place.
+    fn falls(&self, rng: &mut Rng, fault: Fault, times: usize) -> bool {
+        self.fault == fault && rng.once_in(times)
+    }
+
+    fn code(&self, rng: &mut Rng, invoking: bool) -> u8 {
+        let [mask, value] = self.settings.flag.to_be_bytes();
+        let mut code = rng.word() as u8;
+        if invoking {
+            code = code & !mask | value & mask;
+        } else if mask != 0 && rules::invokes(self.settings.flag, code) {
+            let ones: Vec<u32> = (0..8).filter(|bit| mask >> bit & 1 == 1).collect();
+            code ^= 1 << rng.pick(&ones);
+        }
+        code
+    }
+
+    fn attribute(&self, rng: &mut Rng) -> u16 {
+        let mut word = rng.word() & 0x1FFF;
+        if rng.once_in(3) {
+            word |= 0x8000;
+        }
+        if rng.once_in(8) {
+            word |= 0x4000;
+        }
+        if rng.once_in(6) {
+            word |= 0x2000;
+        }
+        word
+    }
+
+    /// Lays a segment's lists and gives its five words.
+    fn segment(&mut self, rng: &mut Rng, width: usize) -> [u16; 5] {
+        let far = self.falls(rng, Fault::FarPointer, 8);
+        let null_code = rng.once_in(7);
+        let mut length = width;
+        let mut visible = width;
+        if null_code {
+            length = rng.below(256);
+        } else if self.settings.display_hidden {
+            visible = rng.pick(&[width, width / 2, 0]);
+        } else {
+            let extra = match rng.below(8) {
+                0..=3 => 0,
+                4..=6 => rng.below(12),
+                _ => rng.below(256),
+            };
+            length = (width + extra).min(255);
+        }
+        if self.falls(rng, Fault::VisibleAboveLength, 6) {
+            if visible > 0 {
+                length = visible - rng.range(1, visible);
+            } else {
+                visible = length.min(254) + 1;
+            }
+        }
+        let mut code_address = 0;
+        let mut invoked = 0;
+        if !null_code {
+            let mut words = Vec::new();
+            for n in 0..length {
+                let invoking = self.density > 0 && rng.once_in(self.density);
+                let code = self.code(rng, invoking);
+                if rules::invokes(self.settings.flag, code) {
+                    invoked += 1;
+                }
+                match words.last_mut() {
+                    Some(word) if n % 2 == 1 => *word = *word & 0xFF00 | u16::from(code),
+                    _ => words.push(u16::from(code) << 8 | rng.word() & 0xFF),
+                }
+            }
+            code_address = self.image.put(rng, &words);
+            if far && rng.once_in(2) {
+                code_address = self.far_address(rng);
+            }
+        }
+        let mut list_address = 0;
+        if !rng.once_in(5) {
+            if !self.lists.is_empty() && rng.once_in(20) {
+                list_address = rng.pick(&self.lists);
+            } else {
+                let mut words: Vec<u16> = (0..invoked).map(|_| self.attribute(rng)).collect();
+                for _ in 0..3 {
+                    let mut word = self.attribute(rng) | 0x8000;
+                    if self.falls(rng, Fault::FillWord, 4) {
+                        word &= 0x7FFF;
+                    }
+                    words.push(word);
+                }
+                list_address = self.image.put(rng, &words);
+                self.lists.push(list_address);
+            }
+            if far && rng.once_in(2) {
+                list_address = self.far_address(rng);
+            }
+        }
+        let code = self.image.pointer(rng, code_address);
+        let list = self.image.pointer(rng, list_address);
+        let size = (length << 8 | visible) as u16;
+        [code[0], code[1], list[0], list[1], size]
+    }
+
+    /// An address at or past the end of memory, or just before it.
+    fn far_address(&self, rng: &mut Rng) -> u32 {
+        let words = self.image.memory.len();
+        let index = match rng.below(5) {
+            0 => words,
+            1 => words.saturating_sub(rng.range(1, 5)),
+            2 => words + rng.below(100),
+            3 => PAGE - 1,
+            _ => ADDRESSABLE - 1 - rng.below(3),
+        };
+        let address = index.clamp(1, ADDRESSABLE - 1) as u32 * 2;
+        if self.settings.linear {
+            address
+        } else {
+            address & 0x7F_FFFE
+        }
+    }
+
+    /// The words of a row block without its link, and the link's place left open.
+    fn row_block(&mut self, rng: &mut Rng, widths: &[usize], background: bool) -> Vec<u16> {
+        let mut head = rng.word() & 0x7FF0 | widths.len() as u16;
+        let mut words = vec![0, 0, 0];
+        if background && rng.once_in(3) {
+            head |= 0x8000;
+            let mut address = 0;
+            if !rng.once_in(4) {
+                // Scan lines stay few so that a frame has several rows.
+                let lines = rng.pick(&[0, 0, 1, 2, 7, 31]);
+                let block = [rng.word(), rng.word() & 0xFFE0 | lines, rng.word()];
+                address = self.image.put(rng, &block);
+                if self.falls(rng, Fault::FarPointer, 6) {
+                    address = self.far_address(rng);
+                }
+            }
+            words.extend(self.image.pointer(rng, address));
+        } else if !background && rng.once_in(2) {
+            head |= 0x8000;
+        }
+        words[2] = head;
+        for &width in widths {
+            let segment = self.segment(rng, width);
+            words.extend(segment);
+        }
+        words
+    }
+
+    /// Places a chain of blocks, the first words of each being its link.
+    fn chain(&mut self, rng: &mut Rng, blocks: Vec<Vec<u16>>) -> Vec<u32> {
+        let places: Vec<u32> = blocks
+            .iter()
+            .map(|block| self.image.place(rng, block.len()))
+            .collect();
+        for (n, mut block) in blocks.into_iter().enumerate() {
+            let next = match places.get(n + 1) {
+                Some(&next) => next,
+                None => match rng.below(6) {
+                    0 => places[n],
+                    1 | 2 => rng.pick(&places),
+                    _ => 0,
+                },
+            };
+            let far = self.falls(rng, Fault::FarPointer, 10);
+            let next = if far { self.far_address(rng) } else { next };
+            let link = self.image.pointer(rng, next);
+            block[..2].copy_from_slice(&link);
+            self.image.write(places[n], &block);
+        }
+        places
+    }
+
+    fn build(&mut self, rng: &mut Rng, shape: &Shape) {
+        // Windows: rows in order, columns at either screen edge, in the middle or whole.
+        let count = rng.pick(&[0, 1, 1, 1, 2, 2, 3, 4]);
+        let mut windows = Vec::new();
+        let mut row = rng.below(3);
+        for _ in 0..count {
+            let last_row = row + rng.below(3);
+            let (mut first, mut last) = match rng.below(6) {
+                0 => (0, rng.below(CELLS)),
+                1 => (rng.below(CELLS), CELLS - 1),
+                2 => (0, CELLS - 1),
+                _ => {
+                    let (a, b) = (rng.below(CELLS), rng.below(CELLS));
+                    (a.min(b), a.max(b))
+                }
+            };
+            let mut rows = (row, last_row);
+            if self.falls(rng, Fault::WindowRows, 2) {
+                rows = (last_row + 1, row);
+            }
+            if self.falls(rng, Fault::WindowOrder, 2) {
+                rows.0 = row.saturating_sub(1);
+            }
+            if self.falls(rng, Fault::WindowColumns, 2) {
+                match rng.below(3) {
+                    0 => (first, last) = (last + 1, first),
+                    1 => last = CELLS,
+                    _ => last = rng.range(CELLS, 255),
+                }
+            }
+            windows.push((rows, first, last));
+            row = last_row + 1 + rng.pick(&[0, 0, 0, 1, 2]);
+        }
+        let mut edges = Vec::new();
+        for &(_, first, last) in &windows {
+            edges.push(first);
+            edges.push(last + 1);
+        }
+
+        // Row blocks.
+        let rows = rng.range(1, shape.rows);
+        let mut blocks = Vec::new();
+        for _ in 0..rows {
+            let total = match rng.below(10) {
+                0..=3 => CELLS,
+                4 => 0,
+                5 if !edges.is_empty() => rng.pick(&edges).min(CELLS),
+                _ => rng.below(CELLS + 1),
+            };
+            let loose = self.falls(rng, Fault::LooseEdge, 2);
+            let mut widths = split(rng, total, if loose { &[] } else { &edges });
+            if self.falls(rng, Fault::WideRow, 3) {
+                let missing = CELLS - total;
+                let more = missing + rng.pick(&[1, 1, 10, 100]);
+                match widths.last_mut() {
+                    Some(width) => *width = (*width + more).min(255),
+                    None => widths.push(more.min(255)),
+                }
+            }
+            blocks.push(self.row_block(rng, &widths, true));
+        }
+        self.rows = self.chain(rng, blocks);
+
+        // Window row chains and window blocks.
+        let mut window_blocks = Vec::new();
+        for &((first_row, last_row), first, last) in &windows {
+            let width = (last + 1).saturating_sub(first).min(CELLS);
+            let rows = (last_row + 1).saturating_sub(first_row).min(shape.rows);
+            let rows = rng.pick(&[rows, rows, rows, rows / 2, 0]);
+            let mut blocks = Vec::new();
+            for _ in 0..rows {
+                let total = match rng.below(4) {
+                    0 => rng.below(width + 1),
+                    _ => width,
+                };
+                let mut widths = split(rng, total, &[]);
+                if self.falls(rng, Fault::WideWindow, 2) {
+                    let more = width - total + rng.pick(&[1, 1, 20]);
+                    match widths.last_mut() {
+                        Some(width) => *width = (*width + more).min(255),
+                        None => widths.push(more.min(255)),
+                    }
+                }
+                blocks.push(self.row_block(rng, &widths, false));
+            }
+            let places = self.chain(rng, blocks);
+            let chain = self
+                .image
+                .pointer(rng, places.first().copied().unwrap_or(0));
+            self.window_rows.extend(places);
+            window_blocks.push(vec![
+                0,
+                0,
+                chain[0],
+                chain[1],
+                (first_row << 8 | last_row) as u16,
+                (first << 8 | last) as u16,
+            ]);
+        }
+        self.windows = self.chain_windows(rng, window_blocks);
+
+        // Main block.
+        let first = if rng.once_in(20) { 0 } else { self.rows[0] };
+        let row = self.image.pointer(rng, first);
+        let noise = rng.word();
+        let lines = rng.pick(&[0, 0, 0, 1, 2, 3, 7, 31]);
+        let main = [
+            row[0],
+            row[1],
+            (rng.below(140) << 8 | rng.below(8)) as u16,
+            noise & 0xFE00 | u16::from(self.fill_flag) << 8 | rng.word() & 0xFF,
+            rng.word(),
+            rng.word(),
+            noise << 5 | lines,
+        ];
+        let mut top = self.image.put(rng, &main);
+        if self.falls(rng, Fault::NullTop, 1) {
+            top = 0;
+        }
+        let mut tow = self.windows.first().copied().unwrap_or(0);
+        if self.falls(rng, Fault::FarPointer, 6) {
+            top = self.far_address(rng);
+        }
+        if self.falls(rng, Fault::FarPointer, 6) {
+            tow = self.far_address(rng);
+        }
+        self.settings.top = self.image.pointer(rng, top);
+        self.settings.tow = self.image.pointer(rng, tow);
+
+        match self.fault {
+            // In a memory too small for the blocks nothing may have been written.
+            _ if self.image.written.is_empty() => {}
+            Fault::Words => {
+                for _ in 0..rng.range(1, 12) {
+                    let index = rng.pick(&self.image.written);
+                    let word = &mut self.image.memory[index];
+                    match rng.below(3) {
+                        0 => *word ^= 1 << rng.below(16),
+                        1 => *word = rng.word(),
+                        _ => *word = rng.word() & 0x0F0F,
+                    }
+                }
+            }
+            Fault::Settings => damage_settings(rng, &mut self.settings),
+            // The draw program's memory cannot be cut; any other is cut among the blocks.
+            Fault::Truncated if shape.memory != script::MEMORY => {
+                let index = rng.pick(&self.image.written);
+                self.image.memory.truncate(index + rng.below(2));
+            }
+            _ => {}
+        }
+    }
+
+    /// Window blocks end in a null link, seldom in a loop: a loop is refused.
+    fn chain_windows(&mut self, rng: &mut Rng, blocks: Vec<Vec<u16>>) -> Vec<u32> {
+        let places: Vec<u32> = blocks
+            .iter()
+            .map(|block| self.image.place(rng, block.len()))
+            .collect();
+        for (n, mut block) in blocks.into_iter().enumerate() {
+            let next = match places.get(n + 1) {
+                Some(&next) => next,
+                None if rng.once_in(6) => rng.pick(&places),
+                None => 0,
+            };
+            let far = self.falls(rng, Fault::FarPointer, 4);
+            let next = if far { self.far_address(rng) } else { next };
+            let link = self.image.pointer(rng, next);
+            block[..2].copy_from_slice(&link);
+            self.image.write(places[n], &block);
+        }
+        places
+    }
+
+    /// A state that no start need give: anything in range, with blocks of the frame.
+    fn state(&self, rng: &mut Rng) -> State {
+        let block = |rng: &mut Rng, among: &[u32]| match rng.below(12) {
+            0 => 0,
+            1 => rng.draw() as u32 & 0xFF_FFFE,
+            2 => self.far_address(rng),
+            _ if among.is_empty() => 0,
+            _ => rng.pick(among),
+        };
+        let row = match rng.below(4) {
+            0 => rng.below(4095),
+            1 => rng.pick(&[0, 255, 256, 4094, 4095]),
+            _ => rng.below(8),
+        };
+        let most = 4095 - row;
+        let lines_left = rng.pick(&[most, most.min(40), most.min(1), most / 2]);
+        let window = if rng.once_in(3) {
+            None
+        } else {
+            let from = rng.pick(&[0, row.min(255), row.saturating_sub(2).min(255)]);
+            let first_column = rng.below(CELLS);
+            let last_column = rng.range(first_column, CELLS - 1);
+            let whole = rng.once_in(3);
+            Some(Window {
+                first_row: from as u32,
+                last_row: rng.pick(&[from, (from + 3).min(255), 255]) as u32,
+                first_column: if whole { 0 } else { first_column as u32 },
+                last_column: if whole { 131 } else { last_column as u32 },
+                next_row: block(rng, &self.window_rows),
+                next_block: block(rng, &self.windows),
+            })
+        };
+        let mut state = State {
+            latch: rng.word(),
+            fields: Fields {
+                row: row as u32,
+                lines_left: lines_left as u32,
+                cursor_x: rng.pick(&[0, 1, 131, 132, 255, rng.0 as u8]),
+                cursor_y: rng.pick(&[row as u8, rng.0 as u8]),
+                fill_code: rng.word() as u8,
+                fill_flag: rng.once_in(2),
+                scan_lines: rng.range(1, 32) as u32,
+                attributes: rng.below(1024) as u32,
+                curs: rng.below(32) as u32,
+                cure: rng.below(32) as u32,
+                next_row: block(rng, &self.rows),
+                window,
+            },
+        };
+        if rng.once_in(5) {
+            damage_state(rng, &mut state.fields);
+        }
+        state
+    }
+}
+
+/// Puts one field of a state out of range, or at the end of its range.
+fn damage_state(rng: &mut Rng, fields: &mut Fields) {
+    let end = rng.pick(&[0, 1, 2, 0x100, 0xFFFF_F000]);
+    match rng.below(12) {
+        0 => fields.row = 4095u32.wrapping_add(end).wrapping_sub(fields.lines_left),
+        1 => fields.lines_left = 4096u32.wrapping_add(end).wrapping_sub(fields.row),
+        2 => fields.scan_lines = rng.pick(&[0, 32, 33, 255, u32::MAX]),
+        3 => fields.curs = rng.pick(&[31, 32, 255, u32::MAX]),
+        4 => fields.cure = rng.pick(&[31, 32, 255, u32::MAX]),
+        5 => fields.attributes = rng.pick(&[1023, 1024, 0xFFFF, u32::MAX]),
+        6 => fields.next_row = rng.pick(&[1, 0xFF_FFFE, 0xFF_FFFF, 0x100_0000, u32::MAX]),
+        7 => fields.lines_left = 0,
+        _ => {
+            if let Some(window) = &mut fields.window {
+                match rng.below(6) {
+                    0 => window.first_row = window.last_row + 1,
+                    1 => window.last_row = rng.pick(&[255, 256, u32::MAX]),
+                    2 => window.first_column = window.last_column + 1,
+                    3 => window.last_column = rng.pick(&[131, 132, 255, u32::MAX]),
+                    4 => window.next_row = rng.pick(&[1, 0xFF_FFFE, 0x100_0000, u32::MAX]),
+                    _ => window.next_block = rng.pick(&[1, 0xFF_FFFE, 0x100_0000, u32::MAX]),
+                }
+            }
+        }
+    }
+}
+
+fn frame(rng: &mut Rng, shape: &Shape) -> Frame {
+    let fault = if rng.below(100) < shape.damaged {
+        rng.pick(&FAULTS)
+    } else {
+        Fault::None
+    };
+    Frame::new(rng, shape, fault)
+}
+
+/// A random case for library calls.
+pub fn case(rng: &mut Rng, shape: &Shape) -> Case {
+    let frame = frame(rng, shape);
+    let state = rng.once_in(3).then(|| frame.state(rng));
+    let calls = rng.range(1, 16);
+    let careless = rng.once_in(4);
+    let buffers = (0..calls)
+        .map(|_| {
+            if careless && rng.once_in(3) {
+                rng.pick(&[0, 1, 131, 133, 264])
+            } else {
+                CELLS
+            }
+        })
+        .collect();
+    Case {
+        settings: frame.settings,
+        memory: frame.image.memory,
+        state,
+        buffers,
+    }
+}
+
+/// The records of a script for settings in register range and memory, without a draw.
+pub fn records(settings: &Settings, memory: &[u16]) -> Vec<Vec<u8>> {
+    let interlace = match settings.interlace {
+        Interlace::None => 0,
+        Interlace::RepeatField => 1,
+        Interlace::Video => 2,
+    };
+    let switches = u8::from(settings.linear)
+        | u8::from(settings.display_hidden) << 1
+        | interlace << 2
+        | u8::from(settings.cursor) << 4;
+    let registers = [
+        (0x08, settings.flag),
+        (0x09, settings.top[0]),
+        (0x0A, settings.top[1]),
+        (0x0B, settings.tow[0]),
+        (0x0C, settings.tow[1]),
+        (0x11, settings.vsd << 6 | settings.vsw),
+        (0x12, settings.val),
+        (0x13, settings.vtot),
+        (0x14, settings.hsync),
+        (0x16, settings.hsd),
+        (0x17, settings.htc),
+        (0x18, settings.htd),
+    ];
+    let mut all = vec![vec![3, switches]];
+    for (register, value) in registers {
+        if value != 0 {
+            let [high, low] = value.to_be_bytes();
+            all.push(vec![1, register, high, low]);
+        }
+    }
+    for (index, &word) in memory.iter().enumerate() {
+        if word != 0 {
+            let [_, a2, a1, a0] = (index as u32 * 2).to_be_bytes();
+            let [high, low] = word.to_be_bytes();
+            all.push(vec![2, a2, a1, a0, high, low]);
+        }
+    }
+    all
+}
+
+/// A random script: well formed, truncated or damaged.
+pub fn script(rng: &mut Rng) -> Vec<u8> {
+    script_of(rng, &Shape::SCRIPT)
+}
+
+/// A random script whose frame has the given shape; its memory is the draw program's.
+pub fn script_of(rng: &mut Rng, shape: &Shape) -> Vec<u8> {
+    let frame = frame(
+        rng,
+        &Shape {
+            memory: script::MEMORY,
+            ..*shape
+        },
+    );
+    let mut all = records(&frame.settings, &frame.image.memory);
+    if rng.once_in(2) {
+        // Any order gives the same.
+        for n in (1..all.len()).rev() {
+            all.swap(n, rng.below(n + 1));
+        }
+    }
+    if rng.once_in(3) {
+        // Registers without a meaning here, bits that are ignored, records that a later one
+        // replaces.
+        let register = rng.pick(&[0x00, 0x01, 0x04, 0x07, 0x0D, 0x0F, 0x10, 0x15]);
+        all.insert(
+            rng.below(all.len() + 1),
+            vec![1, register, rng.word() as u8, 0x55],
+        );
+        let doubled = rng.below(all.len());
+        let mut early = all[doubled].clone();
+        if let Some(last) = early.last_mut() {
+            *last ^= 0x01;
+        }
+        all.insert(0, early);
+        for record in &mut all {
+            match record[..] {
+                [3, switches] => record[1] = switches | (rng.word() as u8 & 0xE0),
+                [1, 0x11..=0x13, high, _] => record[2] = high | (rng.word() as u8 & 0xF0),
+                _ => {}
+            }
+        }
+    }
+    let mut bytes: Vec<u8> = all.concat();
+    bytes.push(0);
+    if rng.once_in(6) {
+        for _ in 0..rng.below(5) {
+            bytes.push(rng.word() as u8);
+        }
+    }
+    match rng.below(10) {
+        0 => {
+            let length = rng.below(bytes.len());
+            bytes.truncate(length);
+        }
+        1 => {
+            let bad: Vec<u8> = match rng.below(5) {
+                0 => vec![rng.range(4, 255) as u8],
+                1 => vec![1, rng.range(0x19, 255) as u8, 0, 0],
+                2 => vec![2, 0, 0, rng.word() as u8 | 1, 0, 0],
+                3 => vec![2, rng.below(2) as u8, rng.range(0x80, 255) as u8, 0, 0, 0],
+                _ => vec![3, 0x0C | rng.word() as u8],
+            };
+            let n = rng.below(all.len() + 1);
+            all.insert(n, bad);
+            bytes = all.concat();
+            bytes.push(0);
+            if rng.once_in(3) {
+                let length = rng.below(bytes.len());
+                bytes.truncate(length);
+            }
+        }
+        2 => {
+            for _ in 0..rng.range(1, 3) {
+                let n = rng.below(bytes.len());
+                bytes[n] ^= 1 << rng.below(8);
+            }
+        }
+        _ => {}
+    }
+    bytes
+}

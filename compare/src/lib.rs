@@ -1,0 +1,12 @@
+//! A second implementation of the display rules: timing, the walk over the blocks,
+//! row effects and the draw program, with a generator of test cases.
+
+pub mod generate;
+pub mod rules;
+pub mod script;
+pub mod vectors;
+
+#[cfg(test)]
+mod plain;
+#[cfg(test)]
+mod tests;

@@ -1,0 +1,453 @@
+//! The row rules once more in the plainest form: word by word, cell by cell, no shortcuts.
+//! The tests hold the fast form in `rules` against it.
+
+use crate::rules::{Effect, Fields, Part, Refusal, Row, Settings, State, Window, CELLS};
+
+pub struct Drawn {
+    pub answer: Row,
+    pub cells: Vec<u32>,
+    pub next: State,
+    /// Every word that became the latch, in order.
+    pub latched: Vec<u16>,
+    /// Words after which the next one was not 2 further.
+    pub wraps: u32,
+    /// Whether a window stood in the row.
+    pub window: bool,
+}
+
+struct Tape<'a> {
+    settings: &'a Settings,
+    memory: &'a [u16],
+    row: u32,
+    count: u32,
+    wraps: u32,
+    latch: u16,
+    latched: Vec<u16>,
+    cells: Vec<Option<u32>>,
+    fill_code: u8,
+    fill_flag: bool,
+}
+
+#[derive(Clone)]
+struct Segment {
+    code: Option<u32>,
+    list: Option<u32>,
+    long: usize,
+    visible: usize,
+}
+
+impl Segment {
+    fn width(&self, settings: &Settings) -> usize {
+        match self.code {
+            Some(_) if settings.display_hidden => self.long,
+            _ => self.visible,
+        }
+    }
+}
+
+fn refuse<T>(number: u8, row: u32, address: u32) -> Result<T, Refusal> {
+    Err(Refusal {
+        number,
+        row,
+        address,
+    })
+}
+
+impl Tape<'_> {
+    /// Reads the word at an address and moves the address on.
+    fn read(&mut self, address: &mut u32) -> Result<u16, Refusal> {
+        match self.memory.get((*address / 2) as usize) {
+            None => refuse(7, self.row, *address),
+            Some(&word) => {
+                self.count += 1;
+                let before = *address;
+                *address = match (self.settings.linear, *address) {
+                    (true, 0xFF_FFFE) => 0,
+                    (true, a) => a + 2,
+                    (false, a) if a % 0x1_0000 == 0xFFFE => a - 0xFFFE,
+                    (false, a) => a + 2,
+                };
+                self.wraps += u32::from(*address != before + 2);
+                Ok(word)
+            }
+        }
+    }
+
+    fn words(&mut self, address: &mut u32, count: usize) -> Result<Vec<u16>, Refusal> {
+        (0..count).map(|_| self.read(address)).collect()
+    }
+
+    fn pointer(&self, words: &[u16]) -> Option<u32> {
+        let high = if self.settings.linear {
+            words[0] % 256
+        } else {
+            words[0] / 256 % 128
+        };
+        let address = u32::from(high) * 0x1_0000 + u32::from(words[1] / 2 * 2);
+        (address != 0).then_some(address)
+    }
+
+    fn window(&mut self, mut address: u32, last_row: u32) -> Result<Window, Refusal> {
+        let words = self.words(&mut address, 6)?;
+        let window = Window {
+            first_row: u32::from(words[4] / 256),
+            last_row: u32::from(words[4] % 256),
+            first_column: u32::from(words[5] / 256),
+            last_column: u32::from(words[5] % 256),
+            next_row: self.pointer(&words[2..]).unwrap_or(0),
+            next_block: self.pointer(&words).unwrap_or(0),
+        };
+        let bad = window.first_row > window.last_row
+            || window.first_row <= last_row
+            || window.first_column > window.last_column
+            || window.last_column > 131;
+        if bad {
+            return refuse(8, self.row, 0);
+        }
+        Ok(window)
+    }
+
+    fn segments(&mut self, address: &mut u32, count: u16) -> Result<Vec<Segment>, Refusal> {
+        let mut all = Vec::new();
+        for _ in 0..count {
+            let words = self.words(address, 5)?;
+            all.push(Segment {
+                code: self.pointer(&words),
+                list: self.pointer(&words[2..]),
+                long: usize::from(words[4] / 256),
+                visible: usize::from(words[4] % 256),
+            });
+        }
+        Ok(all)
+    }
+
+    fn check_lengths(&self, segments: &[Segment]) -> Result<(), Refusal> {
+        for segment in segments {
+            if segment.code.is_some() && segment.visible > segment.long {
+                return refuse(9, self.row, 0);
+            }
+        }
+        Ok(())
+    }
+
+    fn take_latch(&mut self, word: u16) {
+        self.latch = word;
+        self.latched.push(word);
+    }
+
+    fn put(&mut self, column: usize, code: u8, word: u16, source: u32) {
+        assert!(self.cells[column].is_none(), "a cell drawn twice");
+        let mut cell = u32::from(code);
+        for bit in 0..=10 {
+            cell += u32::from(word >> bit & 1) << (8 + bit);
+        }
+        cell += u32::from(word >> 14 & 1) << 19;
+        cell += source << 20;
+        self.cells[column] = Some(cell);
+    }
+
+    /// A fill run over these columns with the list in use.
+    fn run(&mut self, columns: &[usize], list: &mut Option<u32>) -> Result<(), Refusal> {
+        if columns.is_empty() {
+            return Ok(());
+        }
+        if self.fill_flag {
+            if let Some(address) = list {
+                let at = *address;
+                let word = self.read(address)?;
+                if word < 0x8000 {
+                    return refuse(13, self.row, at);
+                }
+                self.take_latch(word);
+            }
+        }
+        for &column in columns {
+            self.put(column, self.fill_code, self.latch, 0);
+        }
+        Ok(())
+    }
+
+    /// A segment from a column on. Gives its list where it stopped.
+    fn segment(
+        &mut self,
+        segment: &Segment,
+        from: usize,
+        source: u32,
+    ) -> Result<Option<u32>, Refusal> {
+        let end = from + segment.width(self.settings);
+        let mut list = segment.list;
+        let mut column = from;
+        if let Some(mut address) = segment.code {
+            let mut held = 0;
+            for n in 0..segment.long {
+                let code = if n % 2 == 0 {
+                    held = self.read(&mut address)?;
+                    (held / 256) as u8
+                } else {
+                    (held % 256) as u8
+                };
+                let mask = (self.settings.flag / 256) as u8;
+                let value = (self.settings.flag % 256) as u8;
+                let mut word = self.latch;
+                if code & mask == value & mask {
+                    if let Some(address) = &mut list {
+                        word = self.read(address)?;
+                        if word >> 15 & 1 == 1 {
+                            self.take_latch(word);
+                        }
+                    }
+                }
+                let ignored = word >> 13 & 1 == 1 && !self.settings.display_hidden;
+                if !ignored && column < end {
+                    self.put(column, code, word, source);
+                    column += 1;
+                }
+            }
+        }
+        let unfilled: Vec<usize> = (column..end).collect();
+        self.run(&unfilled, &mut list)?;
+        Ok(list)
+    }
+}
+
+/// A row call's answer with a buffer of the right size.
+pub fn row(settings: &Settings, memory: &[u16], state: &State) -> Result<Drawn, Refusal> {
+    let now = &state.fields;
+    let mut tape = Tape {
+        settings,
+        memory,
+        row: now.row,
+        count: 0,
+        wraps: 0,
+        latch: state.latch,
+        latched: Vec::new(),
+        cells: vec![None; CELLS],
+        fill_code: now.fill_code,
+        fill_flag: now.fill_flag,
+    };
+    if !good(settings) {
+        return refuse(2, now.row, 0);
+    }
+    if !in_range(now) {
+        return refuse(3, now.row, 0);
+    }
+    if now.lines_left == 0 {
+        return refuse(4, now.row, 0);
+    }
+    if now.row >= 4095 {
+        return refuse(5, now.row, 0);
+    }
+    let mut next = *now;
+    if let Some(window) = now.window {
+        if now.row > window.last_row {
+            next.window = if window.next_block == 0 {
+                None
+            } else {
+                Some(tape.window(window.next_block, window.last_row)?)
+            };
+        }
+    }
+
+    let mut back = Vec::new();
+    if now.next_row != 0 {
+        let mut at = now.next_row;
+        let link = tape.words(&mut at, 2)?;
+        let head = tape.read(&mut at)?;
+        let mut redefinition = None;
+        if head >> 15 == 1 {
+            let words = tape.words(&mut at, 2)?;
+            redefinition = tape.pointer(&words);
+        }
+        back = tape.segments(&mut at, head % 16)?;
+        next.next_row = tape.pointer(&link).unwrap_or(0);
+        if let Some(mut at) = redefinition {
+            let words = tape.words(&mut at, 3)?;
+            next.attributes = u32::from(words[0] % 1024);
+            next.scan_lines = u32::from(words[1] % 32) + 1;
+            next.curs = u32::from(words[2] / 256 % 32);
+            next.cure = u32::from(words[2] % 32);
+        }
+    }
+    tape.check_lengths(&back)?;
+    let widths: Vec<usize> = back.iter().map(|s| s.width(settings)).collect();
+    let sum: usize = widths.iter().sum();
+    if sum > CELLS {
+        return refuse(10, now.row, 0);
+    }
+
+    let mut inner = Vec::new();
+    let mut columns = None;
+    if let Some(window) = &mut next.window {
+        if (window.first_row..=window.last_row).contains(&now.row) {
+            let first = window.first_column as usize;
+            let last = window.last_column as usize;
+            if window.next_row != 0 {
+                let mut at = window.next_row;
+                let link = tape.words(&mut at, 2)?;
+                let head = tape.read(&mut at)?;
+                inner = tape.segments(&mut at, head % 16)?;
+                window.next_row = tape.pointer(&link).unwrap_or(0);
+            }
+            tape.check_lengths(&inner)?;
+            let inner_sum: usize = inner.iter().map(|s| s.width(settings)).sum();
+            if inner_sum > last - first + 1 {
+                return refuse(11, now.row, 0);
+            }
+            let boundaries: Vec<usize> = (0..=widths.len())
+                .map(|n| widths[..n].iter().sum())
+                .collect();
+            for edge in [first, last + 1] {
+                if !boundaries.contains(&edge) && edge < sum {
+                    return refuse(12, now.row, 0);
+                }
+            }
+            columns = Some((first, last));
+        }
+    }
+
+    // Which segments stand before the window, which after it.
+    let mut before = Vec::new();
+    let mut after = Vec::new();
+    let mut s = 0;
+    for (segment, &w) in back.iter().zip(&widths) {
+        match columns {
+            Some((first, last)) if first <= s && s + w <= last + 1 => {}
+            Some((first, _)) if s >= first => after.push((segment, s)),
+            _ => before.push((segment, s)),
+        }
+        s += w;
+    }
+    let mut list = None;
+    for (segment, s) in before {
+        list = tape.segment(segment, s, 1)?;
+    }
+    if let Some((first, last)) = columns {
+        let left: Vec<usize> = (sum..first).collect();
+        tape.run(&left, &mut list)?;
+        let mut inner_list = None;
+        let mut s = first;
+        for segment in &inner {
+            inner_list = tape.segment(segment, s, 2)?;
+            s += segment.width(settings);
+        }
+        let rest: Vec<usize> = (s..last + 1).collect();
+        tape.run(&rest, &mut inner_list)?;
+    }
+    for (segment, s) in after {
+        list = tape.segment(segment, s, 1)?;
+    }
+    let right: Vec<usize> = (sum..CELLS)
+        .filter(|&column| columns.is_none_or(|(_, last)| column > last))
+        .collect();
+    tape.run(&right, &mut list)?;
+
+    let mut cells: Vec<u32> = tape
+        .cells
+        .iter()
+        .map(|cell| cell.expect("an empty cell"))
+        .collect();
+    for (column, cell) in cells.iter_mut().enumerate() {
+        let here = column == usize::from(now.cursor_x) && now.row == u32::from(now.cursor_y);
+        if settings.cursor && here {
+            *cell += 0x40_0000;
+        }
+    }
+    let lines = next.scan_lines.min(now.lines_left);
+    next.row += 1;
+    next.lines_left -= lines;
+    Ok(Drawn {
+        answer: Row {
+            row: now.row,
+            lines,
+            attributes: next.attributes,
+            curs: next.curs,
+            cure: next.cure,
+            words: tape.count,
+        },
+        cells,
+        next: State {
+            latch: tape.latch,
+            fields: next,
+        },
+        latched: tape.latched,
+        wraps: tape.wraps,
+        window: columns.is_some(),
+    })
+}
+
+/// The effect taken from two rows, one from a latch of each kind.
+pub fn effect(settings: &Settings, memory: &[u16], fields: &Fields) -> (Effect, Option<Fields>) {
+    let mut next = None;
+    let [clear, set] = [0x4123, 0x6123].map(|latch| {
+        match row(
+            settings,
+            memory,
+            &State {
+                latch,
+                fields: *fields,
+            },
+        ) {
+            Err(refusal) => Part::Refuse(refusal),
+            Ok(drawn) => {
+                next = Some(drawn.next.fields);
+                drawn
+                    .latched
+                    .last()
+                    .map_or(Part::Keep, |&word| Part::Set(word))
+            }
+        }
+    });
+    (Effect { clear, set }, next)
+}
+
+fn good(s: &Settings) -> bool {
+    let limits = [
+        (s.vsw, 63),
+        (s.vsd, 63),
+        (s.val, 4095),
+        (s.vtot, 4095),
+        (s.hsync, 255),
+        (s.hsd, 511),
+        (s.htc, 1023),
+        (s.htd, 1023),
+    ];
+    if limits.iter().any(|&(number, most)| number > most) {
+        return false;
+    }
+    if s.interlace != crate::rules::Interlace::None {
+        let odd = [s.vsw, s.vsd, s.val, s.htc].iter().all(|n| n % 2 == 1);
+        if !odd || s.vtot % 2 == 1 {
+            return false;
+        }
+    }
+    s.vsd < s.val
+        && s.val <= s.vtot
+        && s.hsync < s.htc
+        && s.hsd < s.htd
+        && s.htd <= s.htc
+        && s.htd - s.hsd <= 132
+}
+
+fn in_range(f: &Fields) -> bool {
+    let address = |a: u32| a.is_multiple_of(2) && a < 0x100_0000;
+    if u64::from(f.row) + u64::from(f.lines_left) > 4095 {
+        return false;
+    }
+    if f.scan_lines < 1 || f.scan_lines > 32 || f.curs > 31 || f.cure > 31 || f.attributes > 1023 {
+        return false;
+    }
+    if !address(f.next_row) {
+        return false;
+    }
+    match f.window {
+        None => true,
+        Some(w) => {
+            w.first_row <= w.last_row
+                && w.last_row < 256
+                && w.first_column <= w.last_column
+                && w.last_column < 132
+                && address(w.next_row)
+                && address(w.next_block)
+        }
+    }
+}

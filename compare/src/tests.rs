@@ -1,0 +1,832 @@
+//! The marked examples, sheet S, the misreadings, and random comparisons.
+
+use crate::generate::{self, Case, Rng, Shape};
+use crate::plain;
+use crate::rules::{
+    self, effect, invokes, pointer, row, sheet, start, step, Effect, Fields, Interlace, Part,
+    Refusal, Row, Settings, State, CELLS,
+};
+use crate::script::{self, UNSET};
+use crate::vectors::{self, sheet_s};
+
+const SHEET_S_OUTPUT: &str = "\
+row 0 lines 8 attr 000 words 12
+100041 500042 100281 000220
+row 1 lines 8 attr 000 words 3
+000220 000220 000220 000220
+end rows 2 words 22
+";
+
+fn output(bytes: &[u8]) -> String {
+    String::from_utf8(script::run(bytes)).unwrap()
+}
+
+#[test]
+fn s_whole_output() {
+    assert_eq!(output(&sheet_s()), SHEET_S_OUTPUT);
+}
+
+/// A frame of one screen: linear, 132 columns, flag 8080, TOP at 0010, rows of one line.
+fn wide() -> Settings {
+    Settings {
+        linear: true,
+        flag: 0x8080,
+        top: [0, 0x10],
+        val: 16,
+        vtot: 20,
+        htc: 200,
+        hsd: 1,
+        htd: 133,
+        ..UNSET
+    }
+}
+
+/// Memory of the draw program's size with a main block at 0010, whose first row block is at 0100.
+struct Board {
+    memory: Vec<u16>,
+}
+
+impl Board {
+    fn new(fill: u16) -> Board {
+        let mut board = Board {
+            memory: vec![0; script::MEMORY],
+        };
+        board.write(0x10, &[0, 0x100, 0, fill, 0, 0, 0]);
+        board
+    }
+
+    fn write(&mut self, address: usize, words: &[u16]) -> &mut Board {
+        self.memory[address / 2..address / 2 + words.len()].copy_from_slice(words);
+        self
+    }
+
+    /// A row block with linear pointers below 10000 and segments (code, list, L, V).
+    fn row(&mut self, address: usize, link: u16, segments: &[(u16, u16, u16, u16)]) -> &mut Board {
+        let mut words = vec![0, link, segments.len() as u16];
+        for &(code, list, length, visible) in segments {
+            words.extend([0, code, 0, list, length << 8 | visible]);
+        }
+        self.write(address, &words)
+    }
+
+    /// A window block.
+    fn window(
+        &mut self,
+        address: usize,
+        link: u16,
+        first: u16,
+        rows: (u16, u16),
+        columns: (u16, u16),
+    ) -> &mut Board {
+        let words = [
+            0,
+            link,
+            0,
+            first,
+            rows.0 << 8 | rows.1,
+            columns.0 << 8 | columns.1,
+        ];
+        self.write(address, &words)
+    }
+
+    /// Rows of a frame up to its end or first refusal.
+    fn frame(&self, settings: &Settings) -> (Vec<(Row, [u32; CELLS])>, Option<Refusal>) {
+        let mut rows = Vec::new();
+        let mut state = match start(settings, &self.memory) {
+            Ok(start) => start.state,
+            Err(refusal) => return (rows, Some(refusal)),
+        };
+        while state.fields.lines_left > 0 {
+            let mut cells = [0; CELLS];
+            match row(settings, &self.memory, &mut state, &mut cells) {
+                Ok(answer) => rows.push((answer, cells)),
+                Err(refusal) => return (rows, Some(refusal)),
+            }
+        }
+        (rows, None)
+    }
+
+    /// The first row from a latch.
+    fn first_row(&self, settings: &Settings, latch: u16) -> Result<[u32; CELLS], Refusal> {
+        let mut state = start(settings, &self.memory)?.state;
+        state.latch = latch;
+        let mut cells = [0; CELLS];
+        row(settings, &self.memory, &mut state, &mut cells)?;
+        Ok(cells)
+    }
+
+    fn first_effect(&self, settings: &Settings) -> Effect {
+        let state = start(settings, &self.memory).unwrap().state;
+        effect(settings, &self.memory, &state.fields).0
+    }
+}
+
+#[test]
+fn p1_flag_e000() {
+    assert!(invokes(0xE000, 0x1F));
+    assert!(!invokes(0xE000, 0x20));
+}
+
+#[test]
+fn p2_flag_ff7f() {
+    assert!(invokes(0xFF7F, 0x7F));
+    assert!(!invokes(0xFF7F, 0x7E));
+}
+
+#[test]
+fn p3_address_step() {
+    assert_eq!(step(true, 0x00_FFFE), 0x01_0000);
+    assert_eq!(step(false, 0x00_FFFE), 0);
+    assert_eq!(step(true, 0xFF_FFFE), 0);
+    assert_eq!(step(false, 0x7F_FFFE), 0x7F_0000);
+}
+
+#[test]
+fn p4_pointer_first_word() {
+    assert_eq!(pointer(false, 0x0123, 0), 0x01_0000);
+    assert_eq!(pointer(true, 0x0123, 0), 0x23_0000);
+    assert_eq!(pointer(false, 0x80FF, 1), 0);
+}
+
+#[test]
+fn p5_p6_rows_of_s() {
+    let s = script::parse(&sheet_s()).unwrap();
+    let begun = start(&s.settings, &s.memory).unwrap();
+    assert_eq!(begun.words, 7);
+    let mut state = begun.state;
+    let mut cells = [7; CELLS];
+    let first = row(&s.settings, &s.memory, &mut state, &mut cells).unwrap();
+    let expected = Row {
+        row: 0,
+        lines: 8,
+        attributes: 0,
+        curs: 0,
+        cure: 31,
+        words: 12,
+    };
+    assert_eq!(first, expected);
+    assert_eq!(cells[..4], [0x100041, 0x500042, 0x100281, 0x000220]);
+    assert_eq!(cells[4..], [0x220; 128]);
+    assert_eq!(state.latch, 0x8002);
+    let second = row(&s.settings, &s.memory, &mut state, &mut cells).unwrap();
+    assert_eq!(
+        second,
+        Row {
+            row: 1,
+            words: 3,
+            ..expected
+        }
+    );
+    assert_eq!(cells, [0x220; 132]);
+    assert_eq!(state.fields.lines_left, 0);
+    let refusal = row(&s.settings, &s.memory, &mut state, &mut cells).unwrap_err();
+    assert_eq!(
+        refusal,
+        Refusal {
+            number: 4,
+            row: 2,
+            address: 0
+        }
+    );
+}
+
+#[test]
+fn p7_timing_of_s() {
+    let s = script::parse(&sheet_s()).unwrap();
+    let got = sheet(&s.settings).unwrap();
+    assert_eq!(
+        (got.sync, got.back, got.active, got.front, got.field),
+        (2, 2, 32, 8, 44)
+    );
+    assert_eq!(got.lines, 16);
+    assert_eq!((got.horizontal_sync, got.horizontal_period), (1, 8));
+    assert_eq!((got.blank_rise, got.blank_fall), (6, 2));
+    assert_eq!(got.invoking, 128);
+}
+
+#[test]
+fn p8_timing_interlaced_video() {
+    let settings = Settings {
+        interlace: Interlace::Video,
+        vsw: 5,
+        vsd: 33,
+        val: 513,
+        vtot: 518,
+        htc: 99,
+        htd: 80,
+        ..UNSET
+    };
+    let got = sheet(&settings).unwrap();
+    assert_eq!(
+        (got.sync, got.back, got.active, got.front, got.field),
+        (6, 34, 480, 5, 525)
+    );
+    assert_eq!(got.lines, 480);
+    assert_eq!(got.invoking, 256);
+    let half = Settings {
+        interlace: Interlace::RepeatField,
+        ..settings
+    };
+    assert_eq!(sheet(&half).unwrap().lines, 240);
+    let refusal = Refusal {
+        number: 2,
+        row: 0,
+        address: 0,
+    };
+    for bad in [
+        Settings { vsw: 4, ..settings },
+        Settings {
+            vsd: 32,
+            ..settings
+        },
+        Settings {
+            val: 512,
+            ..settings
+        },
+        Settings {
+            vtot: 519,
+            ..settings
+        },
+        Settings {
+            htc: 98,
+            ..settings
+        },
+        Settings {
+            vsw: 64,
+            ..settings
+        },
+        Settings {
+            htd: 133,
+            htc: 255,
+            ..settings
+        },
+        Settings {
+            hsync: 99,
+            ..settings
+        },
+    ] {
+        assert_eq!(sheet(&bad), Err(refusal));
+    }
+    // Only the rules listed count: an even HTD is good.
+    assert!(sheet(&Settings {
+        htd: 81,
+        ..settings
+    })
+    .is_ok());
+}
+
+#[test]
+fn p9_ignored_and_display_hidden() {
+    let mut board = Board::new(0x0020);
+    board.row(0x100, 0, &[(0x200, 0x300, 3, 2)]);
+    board
+        .write(0x200, &[0x4180, 0x4200])
+        .write(0x300, &[0xA000]);
+    let cells = board.first_row(&wide(), 0).unwrap();
+    assert_eq!(cells[..3], [0x100041, 0x20, 0x20]);
+    let shown = Settings {
+        display_hidden: true,
+        ..wide()
+    };
+    let cells = board.first_row(&shown, 0).unwrap();
+    assert_eq!(cells[..4], [0x100041, 0x100080, 0x100042, 0x20]);
+}
+
+#[test]
+fn p10_effect_of_a_full_row() {
+    let mut board = Board::new(0x0120);
+    board.row(0x100, 0, &[(0x200, 0x300, 132, 132)]);
+    board.write(0x200, &[0x4141; 66]).write(0x300, &[0x8004]);
+    let expected = Effect {
+        clear: Part::Keep,
+        set: Part::Set(0x8004),
+    };
+    assert_eq!(board.first_effect(&wide()), expected);
+    assert_eq!(expected.apply(0x1234), Ok(0x1234));
+    assert_eq!(expected.apply(0x2234), Ok(0x8004));
+}
+
+#[test]
+fn p11_widths() {
+    let mut board = Board::new(0x0020);
+    board.row(0x100, 0, &[(0, 0, 0, 100), (0, 0, 0, 32)]);
+    assert!(board.first_row(&wide(), 0).is_ok());
+    board.row(0x100, 0, &[(0, 0, 0, 100), (0, 0, 0, 33)]);
+    assert_eq!(
+        board.first_row(&wide(), 0),
+        Err(Refusal {
+            number: 10,
+            row: 0,
+            address: 0
+        })
+    );
+}
+
+#[test]
+fn p12_window_rows() {
+    let mut board = Board::new(0x0020);
+    board.window(0x400, 0, 0, (3, 3), (0, 131));
+    let settings = Settings {
+        tow: [0, 0x400],
+        ..wide()
+    };
+    let (rows, refusal) = board.frame(&settings);
+    assert_eq!((rows.len(), refusal), (16, None));
+    board
+        .window(0x400, 0x420, 0, (3, 3), (0, 131))
+        .window(0x420, 0, 0, (3, 5), (0, 131));
+    let (rows, refusal) = board.frame(&settings);
+    assert_eq!(rows.len(), 4);
+    assert_eq!(
+        refusal,
+        Some(Refusal {
+            number: 8,
+            row: 4,
+            address: 0
+        })
+    );
+}
+
+// The misreadings.
+
+#[test]
+fn unlatched_word_does_not_end_a_latched_ignore() {
+    let mut board = Board::new(0x0020);
+    // A latched ignore, an unlatched visible word, then a plain code that stays hidden.
+    board.row(0x100, 0, &[(0x200, 0x300, 4, 4)]);
+    board
+        .write(0x200, &[0x8081, 0x4243])
+        .write(0x300, &[0xA000, 0x0005]);
+    let cells = board.first_row(&wide(), 0).unwrap();
+    assert_eq!(cells[..3], [0x100581, 0x20, 0x20]);
+}
+
+#[test]
+fn dropped_characters_still_latch() {
+    let mut board = Board::new(0x0020);
+    board.row(0x100, 0, &[(0x200, 0x300, 3, 1), (0x210, 0, 1, 1)]);
+    board
+        .write(0x200, &[0x4142, 0x8000])
+        .write(0x210, &[0x4300])
+        .write(0x300, &[0x8003]);
+    let cells = board.first_row(&wide(), 0).unwrap();
+    assert_eq!(cells[..3], [0x100041, 0x100343, 0x320]);
+    // Also in a segment of no width.
+    board.row(0x100, 0, &[(0x200, 0x300, 3, 0), (0x210, 0, 1, 1)]);
+    let cells = board.first_row(&wide(), 0).unwrap();
+    assert_eq!(cells[..2], [0x100343, 0x320]);
+    assert_eq!(board.first_effect(&wide()).clear, Part::Set(0x8003));
+}
+
+#[test]
+fn segments_under_a_window_are_not_read() {
+    let mut board = Board::new(0x0020);
+    board
+        .window(0x400, 0, 0x420, (0, 0), (1, 2))
+        .row(0x420, 0, &[(0x220, 0, 2, 2)]);
+    // The covered segment would latch 8007; its codes even lie outside memory.
+    board.row(
+        0x100,
+        0,
+        &[(0x200, 0, 1, 1), (0xFFF0, 0x300, 2, 2), (0x210, 0, 1, 1)],
+    );
+    board
+        .write(0x200, &[0x4100])
+        .write(0x210, &[0x4400])
+        .write(0x220, &[0x5758]);
+    board.write(0x300, &[0x8007]);
+    let settings = Settings {
+        tow: [0, 0x400],
+        ..wide()
+    };
+    let (rows, refusal) = board.frame(&settings);
+    assert_eq!(refusal, None);
+    assert_eq!(
+        rows[0].1[..5],
+        [0x100041, 0x200057, 0x200058, 0x100044, 0x20]
+    );
+    // 18 words of the row block, 8 of the window row block, three of codes.
+    assert_eq!(rows[0].0.words, 29);
+}
+
+#[test]
+fn an_effect_has_two_parts() {
+    // From ignore clear the row is full; from ignore set a fill word is taken, and a wrong
+    // one refuses in that part alone.
+    let mut board = Board::new(0x0120);
+    board.row(0x100, 0, &[(0x200, 0x300, 132, 132)]);
+    board.write(0x200, &[0x4141; 66]).write(0x300, &[0x0004]);
+    let refusal = Refusal {
+        number: 13,
+        row: 0,
+        address: 0x300,
+    };
+    let expected = Effect {
+        clear: Part::Keep,
+        set: Part::Refuse(refusal),
+    };
+    assert_eq!(board.first_effect(&wide()), expected);
+    assert_eq!(board.first_row(&wide(), 0x2000), Err(refusal));
+    assert!(board.first_row(&wide(), 0).is_ok());
+}
+
+// Places settled beside the rules.
+
+#[test]
+fn fill_runs_that_touch_take_a_word_each() {
+    let mut board = Board::new(0x0120);
+    board.row(0x100, 0, &[(0, 0x300, 0, 2)]);
+    board.write(0x300, &[0x8001, 0x8002, 0x8003]);
+    let cells = board.first_row(&wide(), 0).unwrap();
+    assert_eq!(cells[..4], [0x120, 0x120, 0x220, 0x220]);
+    // A window past the sum makes the last run two.
+    board.window(0x400, 0, 0, (0, 0), (4, 5));
+    let settings = Settings {
+        tow: [0, 0x400],
+        ..wide()
+    };
+    let cells = board.first_row(&settings, 0).unwrap();
+    assert_eq!(
+        cells[..7],
+        [0x120, 0x120, 0x220, 0x220, 0x220, 0x220, 0x320]
+    );
+    assert_eq!(cells[131], 0x320);
+}
+
+#[test]
+fn segments_of_no_width_at_the_edges_are_covered() {
+    let mut board = Board::new(0x0020);
+    board
+        .write(0x200, &[0x8000])
+        .write(0x310, &[0x8001])
+        .write(0x320, &[0x8002]);
+    board.write(0x330, &[0x8003]);
+    board.row(
+        0x100,
+        0,
+        &[
+            (0, 0, 0, 2),
+            (0x200, 0x310, 1, 0),
+            (0, 0, 0, 2),
+            (0x200, 0x320, 1, 0),
+            (0, 0, 0, 3),
+        ],
+    );
+    board.window(0x400, 0, 0, (0, 0), (2, 3));
+    let settings = Settings {
+        tow: [0, 0x400],
+        ..wide()
+    };
+    assert_eq!(board.first_effect(&settings).clear, Part::Keep);
+    assert_eq!(board.first_effect(&wide()).clear, Part::Set(0x8002));
+    // One column further the first of them is drawn.
+    board.window(0x400, 0, 0, (0, 0), (4, 6));
+    assert_eq!(board.first_effect(&settings).clear, Part::Set(0x8001));
+}
+
+#[test]
+fn lists_wrap() {
+    // Segmented: from the end of page 0 to its first word.
+    let mut board = Board::new(0x0020);
+    board.memory.resize(0x8000, 0);
+    board
+        .row(0x100, 0, &[(0xFFFE, 0, 4, 4)])
+        .write(0xFFFE, &[0x4142])
+        .write(0, &[0x4344]);
+    let segmented = Settings {
+        linear: false,
+        ..wide()
+    };
+    let cells = board.first_row(&segmented, 0).unwrap();
+    assert_eq!(cells[..4], [0x100041, 0x100042, 0x100043, 0x100044]);
+    let missing = Refusal {
+        number: 7,
+        row: 0,
+        address: 0x1_0000,
+    };
+    assert_eq!(board.first_row(&wide(), 0), Err(missing));
+    assert_eq!(board.first_effect(&wide()).set, Part::Refuse(missing));
+}
+
+#[test]
+fn fill_words_wrap_to_a_place_that_is_no_null() {
+    // The list's second word lies at 0 of page 0: still a list.
+    let mut board = Board::new(0x0120);
+    board.memory.resize(0x8000, 0);
+    board
+        .row(0x100, 0, &[(0, 0xFFFE, 0, 2)])
+        .write(0xFFFE, &[0x8001])
+        .write(0, &[0x8002]);
+    let segmented = Settings {
+        linear: false,
+        ..wide()
+    };
+    let cells = board.first_row(&segmented, 0).unwrap();
+    assert_eq!(cells[..3], [0x120, 0x120, 0x220]);
+}
+
+#[test]
+fn joining_effects() {
+    let refusal = Refusal {
+        number: 13,
+        row: 2,
+        address: 6,
+    };
+    let keep = Effect::EMPTY;
+    let a = Effect {
+        clear: Part::Set(0x2001),
+        set: Part::Keep,
+    };
+    let b = Effect {
+        clear: Part::Refuse(refusal),
+        set: Part::Set(0x8001),
+    };
+    let c = Effect {
+        clear: Part::Keep,
+        set: Part::Refuse(refusal),
+    };
+    assert_eq!(
+        a.join(b),
+        Effect {
+            clear: Part::Set(0x8001),
+            set: Part::Set(0x8001)
+        }
+    );
+    assert_eq!(
+        a.join(c),
+        Effect {
+            clear: Part::Refuse(refusal),
+            set: Part::Refuse(refusal)
+        }
+    );
+    assert_eq!(a.join(keep), a);
+    assert_eq!(keep.join(a), a);
+    let a_again = Effect {
+        clear: Part::Set(0x0001),
+        set: Part::Keep,
+    };
+    assert_eq!(
+        a_again.join(c),
+        Effect {
+            clear: Part::Set(0x0001),
+            set: Part::Refuse(refusal)
+        }
+    );
+    for x in [keep, a, b, c] {
+        for y in [keep, a, b, c] {
+            for z in [keep, a, b, c] {
+                assert_eq!(x.join(y).join(z), x.join(y.join(z)));
+            }
+        }
+    }
+}
+
+#[test]
+fn refused_scripts() {
+    let refused = |bytes: &[u8]| output(bytes);
+    assert_eq!(refused(&[]), "refused script at 0\n");
+    assert_eq!(refused(&[4]), "refused script at 0\n");
+    assert_eq!(refused(&[3, 0x0C, 0]), "refused script at 0\n");
+    assert_eq!(refused(&[3, 0xE0]), "refused script at 2\n");
+    assert_eq!(refused(&[3, 0, 1, 0x19, 0, 0, 0]), "refused script at 2\n");
+    assert_eq!(refused(&[3, 0, 1, 0x19, 0]), "refused script at 5\n");
+    assert_eq!(refused(&[2, 0, 0, 1, 0, 0, 9]), "refused script at 0\n");
+    assert_eq!(refused(&[2, 0, 0, 1, 0]), "refused script at 5\n");
+    assert_eq!(
+        refused(&[2, 0, 0x7F, 0xFE, 0, 0, 9]),
+        "refused script at 6\n"
+    );
+    assert_eq!(refused(&[2, 0, 0x80, 0, 0, 0, 9]), "refused script at 0\n");
+    assert_eq!(refused(&[2, 1, 0, 0, 0, 0, 9]), "refused script at 0\n");
+    assert_eq!(refused(&[0, 9, 9]), "refused 2 row 0 at 000000\n");
+}
+
+#[test]
+fn named_vectors() {
+    let all = vectors::all();
+    let mut names: Vec<&str> = all.iter().map(|vector| vector.name).collect();
+    names.sort_unstable();
+    names.dedup();
+    assert_eq!(names.len(), all.len());
+    let mut seen = std::collections::BTreeSet::new();
+    for vector in &all {
+        let text = String::from_utf8(vector.output()).unwrap();
+        let last = text.lines().last().unwrap();
+        assert!(
+            last.starts_with(vector.last_line),
+            "{}: {last}",
+            vector.name
+        );
+        assert!(vector.script.len() < 2000, "{}", vector.name);
+        seen.insert(last.split(' ').take(2).collect::<Vec<_>>().join(" "));
+    }
+    for number in [2, 6, 7, 8, 9, 10, 11, 12, 13] {
+        assert!(seen.contains(&format!("refused {number}")));
+    }
+}
+
+// Random comparisons.
+
+fn begin(case: &Case) -> Option<State> {
+    match case.state {
+        Some(state) => Some(state),
+        None => start(&case.settings, &case.memory)
+            .ok()
+            .map(|start| start.state),
+    }
+}
+
+/// What random cases came to.
+#[derive(Debug, Default)]
+struct Tally {
+    /// Calls by refusal number, accepted rows at 0.
+    calls: [u32; 14],
+    rows_with_window: u32,
+    rows_with_wrap: u32,
+    effects_with_two_words: u32,
+    effects_refused_in_one_part: u32,
+}
+
+/// Runs a case's calls, each held against the plain form, and tallies refusals.
+fn compare_case(case: &Case, tally: &mut Tally) {
+    let (settings, memory) = (&case.settings, &case.memory[..]);
+    if let Err(refusal) = start(settings, memory) {
+        if case.state.is_none() {
+            tally.calls[usize::from(refusal.number)] += 1;
+        }
+    }
+    let Some(first) = begin(case) else {
+        return;
+    };
+    let mut state = first;
+    // Demand 3: the effects of the rows above, joined, and the fields that they come with.
+    let mut joined = Effect::EMPTY;
+    let mut reached: Fields = first.fields;
+    for &length in &case.buffers {
+        let mut buffer: Vec<u32> = (0..length as u32).map(|n| n.wrapping_mul(0x9E37)).collect();
+        let (old_state, old_buffer) = (state, buffer.clone());
+        let got = row(settings, memory, &mut state, &mut buffer);
+        if let Err(refusal) = got {
+            assert_eq!((state, &buffer), (old_state, &old_buffer));
+            assert_eq!(refusal.row, old_state.fields.row);
+            tally.calls[usize::from(refusal.number)] += 1;
+        } else {
+            tally.calls[0] += 1;
+        }
+        if length != CELLS {
+            assert_eq!(got.unwrap_err().number, 1);
+            continue;
+        }
+        match plain::row(settings, memory, &old_state) {
+            Err(refusal) => assert_eq!(got, Err(refusal)),
+            Ok(drawn) => {
+                assert_eq!(got, Ok(drawn.answer));
+                assert_eq!(state, drawn.next);
+                assert_eq!(buffer, drawn.cells);
+                assert!(drawn.answer.words < 12_000);
+                tally.rows_with_window += u32::from(drawn.window);
+                tally.rows_with_wrap += u32::from(drawn.wraps > 0);
+            }
+        }
+        match joined.apply(first.latch) {
+            Err(refusal) => assert_eq!(got, Err(refusal)),
+            Ok(latch) => {
+                let mut alone = State {
+                    latch,
+                    fields: reached,
+                };
+                let mut cells = [0; CELLS];
+                let answer = row(settings, memory, &mut alone, &mut cells);
+                assert_eq!(answer, got);
+                if got.is_ok() {
+                    assert_eq!(alone, state);
+                    assert_eq!(cells[..], buffer[..]);
+                }
+            }
+        }
+        let (one, next) = effect(settings, memory, &reached);
+        let by_plain = plain::effect(settings, memory, &reached);
+        assert_eq!((one, next), by_plain);
+        match (one.clear, one.set) {
+            (Part::Refuse(_), Part::Refuse(_)) => {}
+            (Part::Refuse(_), _) | (_, Part::Refuse(_)) => tally.effects_refused_in_one_part += 1,
+            (clear, set) => tally.effects_with_two_words += u32::from(clear != set),
+        }
+        joined = joined.join(one);
+        reached = next.unwrap_or(reached);
+    }
+}
+
+fn compare_shape(seed: u64, cases: usize, shape: impl Fn(&mut Rng) -> Shape) -> Tally {
+    let mut rng = Rng::new(seed);
+    let mut tally = Tally::default();
+    for _ in 0..cases {
+        let shape = shape(&mut rng);
+        let case = generate::case(&mut rng, &shape);
+        compare_case(&case, &mut tally);
+    }
+    tally
+}
+
+#[test]
+fn random_small_memories() {
+    let tally = compare_shape(1, 60_000, |rng| {
+        let words = match rng.below(4) {
+            0 => rng.range(1, 400),
+            _ => rng.range(400, 6000),
+        };
+        Shape::words(words)
+    });
+    println!("small: {tally:?}");
+    for number in [0, 1, 2, 3, 4, 6, 7, 8, 9, 10, 11, 12, 13] {
+        assert!(tally.calls[number] > 300, "{number}: {tally:?}");
+    }
+    assert_eq!(tally.calls[5], 0);
+    assert!(tally.rows_with_window > 10_000);
+    assert!(tally.effects_with_two_words > 1_000);
+    assert!(tally.effects_refused_in_one_part > 100);
+}
+
+#[test]
+fn random_pages() {
+    let tally = compare_shape(2, 10_000, |_| Shape::PAGES);
+    println!("pages: {tally:?}");
+    assert!(tally.rows_with_wrap > 300);
+}
+
+#[test]
+fn random_whole_memories() {
+    let tally = compare_shape(3, 2_000, |_| Shape::WHOLE);
+    println!("whole: {tally:?}");
+    assert!(tally.rows_with_wrap > 100);
+}
+
+#[test]
+fn random_scripts() {
+    let mut rng = Rng::new(4);
+    let mut counts = std::collections::BTreeMap::new();
+    for _ in 0..4_000 {
+        let bytes = generate::script(&mut rng);
+        let text = output(&bytes);
+        let last = text.lines().last().unwrap();
+        let kind: Vec<&str> = last.split(' ').take(2).collect();
+        *counts.entry(kind.join(" ")).or_insert(0) += 1;
+        // Trailing bytes are never looked at, and every cut is refused at its length
+        // unless a record before it is refused.
+        if let Ok(parsed) = script::parse(&bytes) {
+            let mut longer = bytes.clone();
+            longer.push(rng.word() as u8);
+            assert_eq!(output(&longer), text);
+            assert_eq!(parsed.memory.len(), script::MEMORY);
+        }
+    }
+    println!("scripts: {counts:?}");
+    for number in [2, 6, 7, 8, 9, 10, 11, 12, 13] {
+        assert!(counts[&format!("refused {number}")] > 15, "{counts:?}");
+    }
+    assert!(counts["refused script"] > 300);
+    assert!(counts["end rows"] > 1000);
+}
+
+/// Every proper cut of S is refused with its own length.
+#[test]
+fn every_cut_of_s() {
+    let bytes = sheet_s();
+    for length in 0..bytes.len() {
+        assert_eq!(
+            output(&bytes[..length]),
+            format!("refused script at {length}\n")
+        );
+    }
+}
+
+/// Random states from whole ranges of bits, with no frame behind them.
+#[test]
+fn random_bits() {
+    let mut rng = Rng::new(5);
+    let mut tally = Tally::default();
+    for _ in 0..30_000 {
+        let memory: Vec<u16> = {
+            let words = rng.below(600);
+            let mask = rng.pick(&[0xFFFF, 0x0FFF, 0x03FF, 0x8F0F]);
+            (0..words).map(|_| rng.word() & mask).collect()
+        };
+        let shape = Shape::words(600);
+        let mut case = generate::case(&mut rng, &shape);
+        case.settings.top = [0, rng.word() & 0x3FF];
+        case.settings.tow = [0, rng.word() & 0x3FF];
+        case.memory = memory;
+        compare_case(&case, &mut tally);
+    }
+    println!("bits: {tally:?}");
+}
+
+#[test]
+fn rules_need_no_alphabet() {
+    // Every mask gives as many invoking codes as the sheet says.
+    for flag in 0..=0xFFFFu16 {
+        let settings = Settings { flag, ..wide() };
+        let count = (0..=255).filter(|&code| rules::invokes(flag, code)).count();
+        assert_eq!(sheet(&settings).unwrap().invoking as usize, count);
+    }
+}
