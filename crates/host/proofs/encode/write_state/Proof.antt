@@ -1,0 +1,41 @@
+use mathlib.Core.Path.{_∙_}
+use Rattle.host.specs.Encode.{stateNumbers}
+use borrow.Author.Needs.{needs}
+use Rattle.host.proofs.encode.write_state.Statement.{statement}
+use Rattle.host.proofs.encode.write_state.Tie as tie
+
+write-requires : tie.Need-write-requires
+write-requires c κs = c .before .before .before .before .before .before .before .before .before .before .before .before .before .before .before .before .before .before .before .before .before .before .before .before .before .pre
+
+returns : tie.Need-returns
+unfolding stateNumbers
+returns c =
+    c .before .before .write .ensures
+    ∙ rw (c .before .before .before .before .before .before .before .before .before .before .before .before .before .before .before .before .before .before .before .before .before .before .held .ensures, c .before .before .before .before .before .before .before .before .before .before .before .before .before .before .before .before .before .before .before .before .before .number .ensures, c .before .before .before .before .before .before .before .before .before .before .before .before .before .before .before .before .before .before .before .number2 .ensures, c .before .before .before .before .before .before .before .before .before .before .before .before .before .before .before .before .before .before .before .before .is-held .ensures)
+
+pub write-state-spec : {M : Type 1} → statement M
+write-state-spec =
+    tie.close
+    (tie.spec
+    (λ c κs. search needs)
+    (λ c κs. search needs)
+    (λ c κs. search needs)
+    (λ c κs. search needs)
+    (λ c. search needs)
+    (λ c. search needs)
+    (λ c. search needs)
+    (λ c. search needs)
+    (λ c. search needs)
+    (λ c. search needs)
+    (λ c. search needs)
+    (λ c. search needs)
+    (λ c. search needs)
+    (λ c. search needs)
+    (λ c. search needs)
+    (λ c. search needs)
+    (λ c. search needs)
+    (λ c. search needs)
+    (λ c. search needs)
+    write-requires
+    (λ c. search needs)
+    returns)

@@ -1,0 +1,5 @@
+pub mod Places
+pub mod Decode
+pub mod Encode
+pub mod Calls
+pub mod EffectCalls

@@ -1,0 +1,39 @@
+-- A slice of numbers with fixed places: how many there are, and the largest number that each may have.
+use Prim.Native.Nat.{ℕ, _+_, _≤_}
+use mathlib.Core.Path.{_≡_}
+use mathlib.Core.Bool.{Bool, true, false, _&&_}
+use mathlib.Core.List.{List, [], _∷_}
+use lib.ListN.{length, getD}
+use lib.Dec.{leb}
+
+-- as many numbers as limits, and none above its limit
+unfoldable pub within : List ℕ → List ℕ → Bool
+within [] [] = true
+within [] (x ∷ xs) = false
+within (l ∷ ls) [] = false
+within (l ∷ ls) (x ∷ xs) = leb x l && within ls xs
+
+-- linear, Display Hidden, interlace, cursor enable; attribute flag, TOP, TOW; VSW, VSD, VAL, VTOT; HSYNC, HSD, HTC, HTD
+abbrev pub settingsLimits : List ℕ
+settingsLimits =
+    1 ∷ 1 ∷ 2 ∷ 1 ∷ 65535 ∷ 65535 ∷ 65535 ∷ 65535 ∷ 65535 ∷ 65535 ∷ 65535 ∷ 65535 ∷ 65535 ∷ 65535 ∷ 65535 ∷ 65535 ∷ 65535 ∷ []
+
+-- latch, row, lines left, cursor X, Y, fill code, fill flag; scan lines, row attributes, CURS, CURE; next row block; whether there
+-- is a window, its first row, last row, first column, last column, next row block, next window block
+abbrev pub stateLimits : List ℕ
+stateLimits =
+    65535 ∷ 65535 ∷ 65535 ∷ 255 ∷ 255 ∷ 255 ∷ 1 ∷ 255 ∷ 65535 ∷ 255 ∷ 255 ∷ 4294967295
+    ∷ 1 ∷ 255 ∷ 255 ∷ 255 ∷ 255 ∷ 4294967295 ∷ 4294967295 ∷ []
+
+-- the part for ignore clear, then the one for ignore set. Each: the number of its refusal, or 0, its row and its address; whether it
+-- sets the latch, and the word
+abbrev pub effectLimits : List ℕ
+effectLimits = 13 ∷ 65535 ∷ 4294967295 ∷ 1 ∷ 65535 ∷ 13 ∷ 65535 ∷ 4294967295 ∷ 1 ∷ 65535 ∷ []
+
+-- the same as facts on numbers, from the place i on
+abbrev pub Below : ℕ → List ℕ → List ℕ → Type 0
+Below i [] xs = Unit
+Below i (l ∷ ls) xs = (getD xs i 0 ≤ l) × Below (i + 1) ls xs
+
+abbrev pub Within : List ℕ → List ℕ → Type 0
+Within ls xs = (length xs ≡ length ls) × Below 0 ls xs
