@@ -59,4 +59,5 @@ thagaduvin-effect-spec =
     (λ c. search needs)
     returns-3
     returns-4)
--- 
+
+--
