@@ -85,7 +85,7 @@ pub fn row(settings: Settings, mem: &[u16], state: State, buffer: &mut [u32]) ->
 }
 
 // A row from a latch, its cells in order in `cells`: all of a row call but check 1, the cursor and the row buffer.
-pub fn draw_row(
+fn draw_row(
     settings: Settings,
     mem: &[u16],
     fields: Fields,
