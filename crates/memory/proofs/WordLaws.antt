@@ -1,6 +1,6 @@
 -- Words one after the other: a turn of the loop that reads them, and the address some words further.
-use mathlib.Core.Path.{_≡_, refl, ap, sym, _∙_}
-use mathlib.Core.List.{List, [], _∷_, _++_}
+use mathlib.Core.Path.{_≡_, ap, sym, _∙_}
+use mathlib.Core.List.{List, [], _∷_}
 use mathlib.Core.Bool.{Bool}
 use Prim.Native.Nat.{ℕ, suc, _+_, _-_, _<_}
 use native.Mathlib.Omega.{arith}
@@ -10,7 +10,7 @@ use Rattle.memory.specs.Reading.{Reading, done, ask, _>>=_, fetch, given
 use Rattle.memory.specs.declared.WordsRead.{WordsRead}
 use Rattle.memory.specs.declared.WordsRead.the-variants.{Whole, Missing}
 use Rattle.memory.specs.Address.{nextWord, ahead, words, wordsRead}
-use Rattle.memory.proofs.Laws.{bind-bind, ask-word, ask-absent, run-done}
+use Rattle.memory.proofs.Laws.{bind-bind, ask-word, ask-absent}
 
 module _ (n : ℕ) (m : List ℕ) (l : Bool) (left a : ℕ) {A : Type 0} (k : List ℕ → Reading A) where
   words-turn : 0 < left → words l left a ≡ ask a (λ w. words l (left - 1) (nextWord l a) >>= λ ws. done (w ∷ ws))

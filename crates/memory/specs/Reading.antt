@@ -2,7 +2,7 @@
 -- The count of words, refusal 7 with its address and the addresses read, in order, are defined here once for every rule.
 use mathlib.Core.List.{List, [], _∷_}
 use mathlib.Core.Bool.{Bool, true, false}
-use Prim.Native.Nat.{ℕ, zero, suc, _+_, _/_}
+use Prim.Native.Nat.{ℕ, _+_, _/_}
 use lib.ListN.{length, getD}
 use lib.Dec.{ltb}
 use Rattle.memory.specs.declared.Fetch.{Fetch}

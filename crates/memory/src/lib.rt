@@ -1,9 +1,11 @@
 // Display memory: pointers, addresses, and the words that a host lends.
 ghost use mathlib.Core.Path.{_≡_};
-ghost use lib.ListN.{length};
+ghost use Prim.Native.Nat.{_+_, _≤_};
+ghost use lib.ListN.{length, take, drop};
+ghost use lib.Dec.{leb};
 ghost use Rattle.memory.specs.Word.{bit, high, low};
 ghost use Rattle.memory.specs.Reading.{fetch, run};
-ghost use Rattle.memory.specs.Address.{pointer, nextWord, ahead, words, wordsRead};
+ghost use Rattle.memory.specs.Address.{pointer, nextWord, ahead, isRun, words, wordsRead};
 
 // A refusal of document 01: its number, the row and the address that it tells.
 pub struct Refusal {
@@ -79,13 +81,27 @@ pub fn next_word(linear: bool, a: u32) -> u32
 pub fn words_ahead(linear: bool, count: u32, a: u32) -> u32
     ensures { λ r. ⌜ r ≡ ahead linear count a ⌝ }
 {
-    let mut at = a;
-    let mut left = count;
-    while 0 < left {
-        at = next_word(linear, at);
-        left -= 1;
+    if count == 0 {
+        return a;
     }
-    at
+    if linear {
+        (a % 16777216 + count % 8388608 * 2) % 16777216
+    } else {
+        let page = a / 65536 * 65536;
+        page + (a % 65536 + count % 32768 * 2) % 65536
+    }
+}
+
+// Do `count` words from the address `a` on stand one after the other in memory, with no wrap between them?
+pub fn is_run(mem: &[u16], linear: bool, a: u32, count: usize) -> bool
+    ensures { λ r. ⌜ r ≡ isRun linear (length (now (mem .entry))) a count ⌝ }
+{
+    let i = (a / 2) as usize;
+    if linear {
+        has_room(i, count, mem.len()) & has_room(i, count, 8388608)
+    } else {
+        has_room(i, count, mem.len()) & has_room(i % 32768, count, 32768)
+    }
 }
 
 // The word at the address `a`.
@@ -104,6 +120,31 @@ pub fn word_at(mem: &[u16], a: u32) -> Fetch
 pub fn read_words(mem: &[u16], linear: bool, a: u32, into: &mut [u16]) -> WordsRead
     ensures { λ r. ⌜ wordsRead r (now (into .exit)) ≡ run (now (mem .entry)) (words linear (length (now (into .entry))) a) ⌝ }
 {
+    if is_run(mem, linear, a, into.len()) {
+        let at = (a / 2) as usize;
+        copy_words(mem, at, into);
+        WordsRead::Whole
+    } else {
+        read_each_word(mem, linear, a, into)
+    }
+}
+
+// The words of memory from number `at` on, copied into `into`.
+fn copy_words(mem: &[u16], at: usize, into: &mut [u16])
+    requires { ⌜ at + length (now into) ≤ length (now mem) ⌝ }
+    ensures { λ _. ⌜ now (into .exit) ≡ take (length (now (into .entry))) (drop at (now (mem .entry))) ⌝ }
+{
+    let mut i = 0;
+    while i < into.len() {
+        into[i] = mem[at + i];
+        i += 1;
+    }
+}
+
+// As `read_words`, one word after the other.
+fn read_each_word(mem: &[u16], linear: bool, a: u32, into: &mut [u16]) -> WordsRead
+    ensures { λ r. ⌜ wordsRead r (now (into .exit)) ≡ run (now (mem .entry)) (words linear (length (now (into .entry))) a) ⌝ }
+{
     let mut at = a;
     let mut i = 0;
     while i < into.len() {
@@ -115,4 +156,11 @@ pub fn read_words(mem: &[u16], linear: bool, a: u32, into: &mut [u16]) -> WordsR
         i += 1;
     }
     WordsRead::Whole
+}
+
+// Do `count` places from `i` on lie before `end`? Written without the sum `i + count`, which could wrap.
+fn has_room(i: usize, count: usize, end: usize) -> bool
+    ensures { λ r. ⌜ r ≡ leb (i + count) end ⌝ }
+{
+    if i <= end { count <= end - i } else { false }
 }

@@ -1,8 +1,8 @@
 -- Where background segments stand against a window whose edges are boundaries.
-use mathlib.Core.Path.{_≡_, refl, sym, _∙_}
+use mathlib.Core.Path.{_≡_, refl, sym}
 use mathlib.Core.Bool.{Bool, true, false, _&&_, _||_, not, and-false}
 use mathlib.Core.List.{List, [], _∷_}
-use Prim.Native.Nat.{ℕ, suc, _+_, _-_, _<_, _≤_, max}
+use Prim.Native.Nat.{ℕ, suc, _+_, _<_, _≤_, max}
 use native.Mathlib.Omega.{arith}
 use lib.ListN.{length}
 use lib.Dec.{ltb, leb, eqb}
@@ -28,14 +28,7 @@ after-end first end s w h =
     let l = le-leb first s (ltb-false s first (not-true (ltb s first) (k .0))) in
     leb-false (s + w) end (not-true (leb (s + w) end) (rw l at (k .1)))
 
--- whether a segment from s of width w ends by a place, without the sum
-pub ends-by : (s w end : ℕ) → s ≤ end → leb w (end - s) ≡ leb (s + w) end
-ends-by s w end h = cases (leb w (end - s)) refl
-  where
-    cases : (b : Bool) → leb w (end - s) ≡ b → leb w (end - s) ≡ leb (s + w) end
-    cases true e = e ∙ sym (le-leb (s + w) end (omega (arith, leb-true w (end - s) e)))
-    cases false e = e ∙ sym (lt-leb (s + w) end (omega (arith, leb-false w (end - s) e)))
-
+-- a segment from s past a place does not end by it
 pub ends-past : (b : Bool) (s w end : ℕ) → end < s → false ≡ b && leb (s + w) end
 ends-past b s w end h = sym (rw (lt-leb (s + w) end (omega arith)) (and-false b))
 

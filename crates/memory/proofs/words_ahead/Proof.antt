@@ -1,37 +1,36 @@
-use mathlib.Core.Path.{_≡_, refl, sym, _∙_}
+use mathlib.Core.Path.{_≡_, sym, _∙_}
+use Prim.Native.Nat.{suc, _-_}
 use native.Mathlib.Omega.{arith}
-use Rattle.memory.specs.Address.{ahead}
-use Rattle.memory.proofs.WordLaws.{ahead-turn, ahead-none}
+use Rattle.memory.proofs.WordLaws.{ahead-none}
+use Rattle.memory.proofs.RunLaws.{ahead-linear, ahead-paged}
 use borrow.Author.Needs.{needs}
 use Rattle.memory.proofs.words_ahead.Statement.{statement}
 use Rattle.memory.proofs.words_ahead.Tie as tie
 
-abbrev Inv-loop : tie.InvT-loop
-Inv-loop linear count a at₀ left₀ at left = ahead linear count a ≡ ahead linear left at
+returns : tie.Need-returns
+returns c = sym (ahead-none _ _ _ (c .if1 .taken))
 
-abbrev μ-loop : tie.MeasureT-loop
-μ-loop linear count a at₀ left₀ at left = left
+returns-2 : tie.Need-returns-2
+returns-2 c =
+    let a = c .before .before .args in
+    let e : a .count ≡ suc (a .count - 1) = omega (arith, c .before .if1 .left) in
+    rw (c .if2 .taken, e) (sym (ahead-linear (a .count - 1) (a .a) ∙ omega arith))
 
-loop-holds : tie.Need-loop-holds Inv-loop μ-loop
-loop-holds c = refl
-
-loop-again : tie.Need-loop-again Inv-loop μ-loop
-loop-again c =
-    let l = c .before .before .loop in
-    l .inv ∙ ahead-turn _ _ _ (omega arith) ∙ rw (c .next-word .ensures)
-
-returns : tie.Need-returns Inv-loop μ-loop
-returns c = sym (c .before .loop .inv ∙ ahead-none _ _ _ (omega arith))
+returns-3 : tie.Need-returns-3
+returns-3 c =
+    let a = c .before .before .args in
+    rw (c .if2 .left) (sym (ahead-paged (a .count) (a .a) ∙ omega arith))
 
 pub words-ahead-spec : {M : Type 1} → statement M
 words-ahead-spec =
     tie.close
     (tie.spec
-    Inv-loop
-    μ-loop
-    loop-holds
-    (λ c κs. search needs)
+    returns
     (λ c. search needs)
     (λ c. search needs)
-    loop-again
-    returns)
+    (λ c. search needs)
+    (λ c. search needs)
+    (λ c. search needs)
+    (λ c. search needs)
+    returns-2
+    returns-3)

@@ -1,6 +1,7 @@
 use lib.Dec.{leb}
 use Rattle.plan.specs.Layout.{covered}
-use Rattle.plan.proofs.LayoutLaws.{ends-by, ends-past}
+use Rattle.memory.proofs.RunLaws.{ends-by}
+use Rattle.plan.proofs.LayoutLaws.{ends-past}
 use Rattle.plan.proofs.layout.is_covered.Statement.{statement}
 use Rattle.plan.proofs.layout.is_covered.Tie as tie
 

@@ -1,0 +1,87 @@
+-- Words that stand one after the other in memory: the address some words further as one sum, and what such a run reads.
+use mathlib.Core.Path.{_≡_, refl, ap, ap₂, sym, _∙_}
+use mathlib.Core.List.{List, []}
+use mathlib.Core.Bool.{Bool, true, false}
+use Prim.Native.Nat.{ℕ, zero, suc, _+_, _-_, _*_, _/_, _%_, _≤_, _<_}
+use native.Mathlib.Omega.{arith}
+use lib.ListN.{length, getD, take, drop}
+use lib.Dec.{leb}
+use lib.Seq.{drop-cons}
+use borrow.Author.Tests.{leb-true, leb-false, le-leb, lt-leb, lt-ltb}
+use Rattle.memory.specs.declared.Fetch.the-variants.{Word}
+use Rattle.memory.specs.Reading.{_>>=_, fetch, given, runFrom, run}
+use Rattle.memory.specs.Address.{nextWord, ahead, isRun, words}
+use Rattle.memory.proofs.Laws.{ask-word, bind-given, run-done}
+use Rattle.memory.proofs.ReadBounds.{both}
+
+-- whether k places from i on end by a place, without the sum
+pub ends-by : (i k end : ℕ) → i ≤ end → leb k (end - i) ≡ leb (i + k) end
+ends-by i k end h = cases (leb k (end - i)) refl
+  where
+    cases : (b : Bool) → leb k (end - i) ≡ b → leb k (end - i) ≡ leb (i + k) end
+    cases true e = e ∙ sym (le-leb (i + k) end (omega (arith, leb-true k (end - i) e)))
+    cases false e = e ∙ sym (lt-leb (i + k) end (omega (arith, leb-false k (end - i) e)))
+
+-- the address k words further
+pub ahead-linear : (k a : ℕ) → ahead true (suc k) a ≡ (a + 2 * suc k) % 16777216
+unfolding ahead nextWord
+ahead-linear zero a = omega arith
+ahead-linear (suc k) a = ahead-linear k ((a + 2) % 16777216) ∙ omega arith
+
+pub ahead-paged : (k a : ℕ) → ahead false k a ≡ a / 65536 * 65536 + (a + 2 * k) % 65536
+unfolding ahead nextWord
+ahead-paged zero a = omega arith
+ahead-paged (suc k) a = ahead-paged k (a / 65536 * 65536 + (a + 2) % 65536) ∙ omega arith
+
+-- what a run is: it ends in memory, and no address before its end wraps
+module _ (len a k : ℕ) where
+  pub run-ends : (l : Bool) → isRun l len a k ≡ true → a / 2 + k ≤ len
+  unfolding isRun
+  run-ends true h = leb-true _ _ (both (leb (a / 2 + k) len) _ h .0)
+  run-ends false h = leb-true _ _ (both (leb (a / 2 + k) len) _ h .0)
+
+  pub run-ahead : (l : Bool) (j : ℕ) → isRun l len a k ≡ true → j < k → ahead l j a ≡ a + 2 * j
+  unfolding isRun ahead
+  run-ahead true zero h i = omega arith
+  run-ahead true (suc j) h i =
+      let p = leb-true (a / 2 + k) 8388608 (both (leb (a / 2 + k) len) _ h .1) in
+      ahead-linear j a ∙ omega arith
+  run-ahead false j h i =
+      let p = leb-true (a / 2 % 32768 + k) 32768 (both (leb (a / 2 + k) len) _ h .1) in
+      ahead-paged j a ∙ omega arith
+
+  pub run-shorter : (l : Bool) (j : ℕ) → isRun l len a k ≡ true → j ≤ k → isRun l len a j ≡ true
+  unfolding isRun
+  run-shorter true j h i =
+      let t = both (leb (a / 2 + k) len) _ h in
+      let p = leb-true (a / 2 + k) len (t .0) in
+      let q = leb-true (a / 2 + k) 8388608 (t .1) in
+      rw (le-leb (a / 2 + j) len (omega arith), le-leb (a / 2 + j) 8388608 (omega arith))
+  run-shorter false j h i =
+      let t = both (leb (a / 2 + k) len) _ h in
+      let p = leb-true (a / 2 + k) len (t .0) in
+      let q = leb-true (a / 2 % 32768 + k) 32768 (t .1) in
+      rw (le-leb (a / 2 + j) len (omega arith), le-leb (a / 2 % 32768 + j) 32768 (omega arith))
+
+-- the words of a run are there
+pub run-fetch : (l : Bool) (m : List ℕ) (a k j : ℕ) → isRun l (length m) a k ≡ true → j < k
+    → fetch m (ahead l j a) ≡ Word (getD m (a / 2 + j) 0)
+run-fetch l m a k j h i =
+    let end = run-ends (length m) a k l h in
+    let at : (a + 2 * j) / 2 ≡ a / 2 + j = omega arith in
+    ap (fetch m) (run-ahead (length m) a k l j h i) ∙ rw (at, lt-ltb (a / 2 + j) (length m) (omega arith))
+
+words-there : (n : ℕ) (m : List ℕ) (l : Bool) (k p a : ℕ) → p + k ≤ length m
+    → ((j : ℕ) → j < k → fetch m (ahead l j a) ≡ Word (getD m (p + j) 0)) → runFrom n m (words l k a) ≡ given (n + k) (take k (drop p m))
+unfolding words ahead _>>=_
+words-there n m l zero p a h f = run-done _ _ _ ∙ ap (λ (i : ℕ). given i []) (omega arith)
+words-there n m l (suc k) p a h f =
+    let first : fetch m a ≡ Word (getD m p 0) = f 0 (omega arith) ∙ ap (λ (i : ℕ). Word (getD m i 0)) (omega arith) in
+    let rest = words-there (n + 1) m l k (suc p) (nextWord l a) (omega arith) λ j i. f (suc j) (omega arith) ∙ ap (λ (i : ℕ). Word (getD m i 0)) (omega arith) in
+    ask-word n m a _ _ first ∙ bind-given (n + 1) m _ _ rest ∙ run-done _ _ _
+    ∙ ap₂ given (omega arith) (sym (ap (take (suc k)) (drop-cons m p 0 (omega arith))))
+
+pub run-words : (m : List ℕ) (l : Bool) (a k : ℕ) → isRun l (length m) a k ≡ true → run m (words l k a) ≡ given k (take k (drop (a / 2) m))
+run-words m l a k h =
+    words-there 0 m l k (a / 2) a (run-ends (length m) a k l h) (λ j. run-fetch l m a k j h)
+    ∙ ap (λ (i : ℕ). given i (take k (drop (a / 2) m))) (omega arith)
