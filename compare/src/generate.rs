@@ -584,28 +584,52 @@ impl Frame {
         words
     }
 
-    /// Places a chain of blocks, the first words of each being its link.
-    fn chain(&mut self, rng: &mut Rng, blocks: Vec<Vec<u16>>) -> Vec<u32> {
+    /// Places a chain of blocks, the first words of each being its link. The last one's link is
+    /// chosen among the places of all; one in `far` lies outside memory if that is the fault.
+    fn chain(
+        &mut self,
+        rng: &mut Rng,
+        blocks: Vec<Vec<u16>>,
+        far: usize,
+        last: impl Fn(&mut Rng, &[u32]) -> u32,
+    ) -> Vec<u32> {
         let places: Vec<u32> = blocks
             .iter()
             .map(|block| self.image.place(rng, block.len()))
             .collect();
         for (n, mut block) in blocks.into_iter().enumerate() {
-            let next = match places.get(n + 1) {
+            let mut next = match places.get(n + 1) {
                 Some(&next) => next,
-                None => match rng.below(6) {
-                    0 => places[n],
-                    1 | 2 => rng.pick(&places),
-                    _ => 0,
-                },
+                None => last(rng, &places),
             };
-            let far = self.falls(rng, Fault::FarPointer, 10);
-            let next = if far { self.far_address(rng) } else { next };
+            if self.falls(rng, Fault::FarPointer, far) {
+                next = self.far_address(rng);
+            }
             let link = self.image.pointer(rng, next);
             block[..2].copy_from_slice(&link);
             self.image.write(places[n], &block);
         }
         places
+    }
+
+    /// Row blocks end in a null link or in a loop.
+    fn chain_rows(&mut self, rng: &mut Rng, blocks: Vec<Vec<u16>>) -> Vec<u32> {
+        self.chain(rng, blocks, 10, |rng, places| match rng.below(6) {
+            0 => places[places.len() - 1],
+            1 | 2 => rng.pick(places),
+            _ => 0,
+        })
+    }
+
+    /// Window blocks end in a null link, seldom in a loop: a loop is refused.
+    fn chain_windows(&mut self, rng: &mut Rng, blocks: Vec<Vec<u16>>) -> Vec<u32> {
+        self.chain(rng, blocks, 4, |rng, places| {
+            if rng.once_in(6) {
+                rng.pick(places)
+            } else {
+                0
+            }
+        })
     }
 
     fn build(&mut self, rng: &mut Rng, shape: &Shape) {
@@ -669,7 +693,7 @@ impl Frame {
             }
             blocks.push(self.row_block(rng, &widths, true));
         }
-        self.rows = self.chain(rng, blocks);
+        self.rows = self.chain_rows(rng, blocks);
 
         // Window row chains and window blocks.
         let mut window_blocks = Vec::new();
@@ -693,7 +717,7 @@ impl Frame {
                 }
                 blocks.push(self.row_block(rng, &widths, false));
             }
-            let places = self.chain(rng, blocks);
+            let places = self.chain_rows(rng, blocks);
             let chain = self
                 .image
                 .pointer(rng, places.first().copied().unwrap_or(0));
@@ -759,27 +783,6 @@ impl Frame {
             }
             _ => {}
         }
-    }
-
-    /// Window blocks end in a null link, seldom in a loop: a loop is refused.
-    fn chain_windows(&mut self, rng: &mut Rng, blocks: Vec<Vec<u16>>) -> Vec<u32> {
-        let places: Vec<u32> = blocks
-            .iter()
-            .map(|block| self.image.place(rng, block.len()))
-            .collect();
-        for (n, mut block) in blocks.into_iter().enumerate() {
-            let next = match places.get(n + 1) {
-                Some(&next) => next,
-                None if rng.once_in(6) => rng.pick(&places),
-                None => 0,
-            };
-            let far = self.falls(rng, Fault::FarPointer, 4);
-            let next = if far { self.far_address(rng) } else { next };
-            let link = self.image.pointer(rng, next);
-            block[..2].copy_from_slice(&link);
-            self.image.write(places[n], &block);
-        }
-        places
     }
 
     /// A state that no start need give: anything in range, with blocks of the frame.
