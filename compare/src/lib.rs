@@ -2,6 +2,8 @@
 //! row effects and the draw program, with a generator of test cases.
 
 pub mod generate;
+pub mod host;
+pub mod library;
 pub mod rules;
 pub mod script;
 pub mod vectors;

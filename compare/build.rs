@@ -1,0 +1,17 @@
+//! Links libhost.a to the programs that call it, from the folder HOST_LIB or ../target/staticlib.
+
+use std::{env, path::PathBuf};
+
+fn main() {
+    let here = env::var("CARGO_MANIFEST_DIR").expect("the folder of this package");
+    let folder = env::var("HOST_LIB").map_or_else(
+        |_| PathBuf::from(here).join("../target/staticlib"),
+        PathBuf::from,
+    );
+    let library = folder.join("libhost.a");
+    println!("cargo::rerun-if-env-changed=HOST_LIB");
+    println!("cargo::rerun-if-changed={}", library.display());
+    for program in ["host", "measure"] {
+        println!("cargo::rustc-link-arg-bin={program}={}", library.display());
+    }
+}

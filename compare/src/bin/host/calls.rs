@@ -1,0 +1,201 @@
+//! Each call made on both sides, compared and counted.
+
+use crate::lent::Lent;
+use compare::{host, library};
+use std::fmt::Debug;
+
+/// What differed, in words.
+pub struct Difference(pub String);
+
+pub type Checked<T> = Result<T, Difference>;
+
+/// The lines of the table.
+const LINES: [&str; 9] = [
+    "sheet",
+    "start",
+    "row",
+    "effect",
+    "its part, ignore clear",
+    "its part, ignore set",
+    "join",
+    "apply",
+    "all",
+];
+const STATUSES: usize = 15;
+
+/// Calls by line and status; 255 is in the last place.
+#[derive(Default)]
+pub struct Tally {
+    counts: [[u64; STATUSES]; LINES.len()],
+    /// Effects whose two parts differ.
+    parted: u64,
+}
+
+impl Tally {
+    fn count(&mut self, line: usize, status: u32) {
+        self.counts[line][(status as usize).min(STATUSES - 1)] += 1;
+    }
+
+    fn count_call(&mut self, line: usize, status: u8) {
+        self.count(line, status.into());
+        self.count(LINES.len() - 1, status.into());
+    }
+
+    fn count_parts(&mut self, effect: &[u32]) {
+        let (clear, set) = effect.split_at(5);
+        self.count(4, clear[0]);
+        self.count(5, set[0]);
+        self.parted += u64::from(clear != set);
+    }
+
+    /// A table of counts in markdown, and sums.
+    pub fn print(&self) {
+        let statuses = (0..STATUSES as u32 - 1).chain([255]);
+        let heads: Vec<String> = statuses.map(|status| status.to_string()).collect();
+        println!("| status | {} |", heads.join(" | "));
+        println!("|---|{}", "---|".repeat(STATUSES));
+        for (line, counts) in LINES.iter().zip(&self.counts) {
+            let counts: Vec<String> = counts.iter().map(u64::to_string).collect();
+            println!("| {line} | {} |", counts.join(" | "));
+        }
+        let calls: u64 = self.counts[LINES.len() - 1].iter().sum();
+        println!(
+            "{calls} calls; {} effects with two parts that differ",
+            self.parted
+        );
+    }
+}
+
+/// The slices that calls write, and the counts of calls.
+pub struct Calls {
+    pub tally: Tally,
+    pub state: Lent,
+    pub cells: Lent,
+    pub answer: Lent,
+    pub effect: Lent,
+}
+
+/// Compares what a call left. `given` are its name and what it was given, for a difference.
+fn compare(statuses: [u8; 2], lent: &[&Lent], given: &dyn Debug) -> Checked<u8> {
+    let [ours, theirs] = statuses;
+    let found = if ours == theirs {
+        lent.iter().find_map(|lent| lent.difference())
+    } else {
+        Some(format!("status: here {ours}, library {theirs}"))
+    };
+    match found {
+        None => Ok(ours),
+        Some(found) => Err(Difference(format!("{found}\nin the call {given:?}"))),
+    }
+}
+
+impl Calls {
+    pub fn new() -> Calls {
+        Calls {
+            tally: Tally::default(),
+            state: Lent::new("state"),
+            cells: Lent::new("cells"),
+            answer: Lent::new("answer"),
+            effect: Lent::new("effect"),
+        }
+    }
+
+    pub fn sheet(&mut self, settings: &[u32], answers: usize) -> Checked<u8> {
+        let answer = &mut self.answer;
+        answer.mark(answers);
+        let statuses = [
+            host::sheet(settings, answer.ours()),
+            library::sheet(settings, answer.theirs()),
+        ];
+        self.tally.count_call(0, statuses[0]);
+        compare(statuses, &[answer], &("sheet", settings))
+    }
+
+    pub fn start(
+        &mut self,
+        settings: &[u32],
+        memory: &[u16],
+        states: usize,
+        answers: usize,
+    ) -> Checked<u8> {
+        let (state, answer) = (&mut self.state, &mut self.answer);
+        state.mark(states);
+        answer.mark(answers);
+        let statuses = [
+            host::start(settings, memory, state.ours(), answer.ours()),
+            library::start(settings, memory, state.theirs(), answer.theirs()),
+        ];
+        self.tally.count_call(1, statuses[0]);
+        compare(statuses, &[state, answer], &("start", settings))
+    }
+
+    pub fn row(
+        &mut self,
+        settings: &[u32],
+        memory: &[u16],
+        from: &[u32],
+        cells: usize,
+        answers: usize,
+    ) -> Checked<u8> {
+        let given = ("row", settings, from, cells, answers);
+        self.cells.mark(cells);
+        let (state, cells, answer) = (&mut self.state, &mut self.cells, &mut self.answer);
+        state.put(from);
+        answer.mark(answers);
+        let statuses = [
+            host::row(settings, memory, state.ours(), cells.ours(), answer.ours()),
+            library::row(
+                settings,
+                memory,
+                state.theirs(),
+                cells.theirs(),
+                answer.theirs(),
+            ),
+        ];
+        self.tally.count_call(2, statuses[0]);
+        compare(statuses, &[state, cells, answer], &given)
+    }
+
+    pub fn effect(
+        &mut self,
+        settings: &[u32],
+        memory: &[u16],
+        from: &[u32],
+        effects: usize,
+    ) -> Checked<u8> {
+        let (state, effect) = (&mut self.state, &mut self.effect);
+        state.put(from);
+        effect.mark(effects);
+        let statuses = [
+            host::effect(settings, memory, state.ours(), effect.ours()),
+            library::effect(settings, memory, state.theirs(), effect.theirs()),
+        ];
+        self.tally.count_call(3, statuses[0]);
+        if statuses[0] == 0 {
+            self.tally.count_parts(effect.ours());
+        }
+        compare(statuses, &[state, effect], &("effect", settings, from))
+    }
+
+    pub fn join(&mut self, first: &[u32], second: &[u32], effects: usize) -> Checked<u8> {
+        let effect = &mut self.effect;
+        effect.mark(effects);
+        let statuses = [
+            host::join(first, second, effect.ours()),
+            library::join(first, second, effect.theirs()),
+        ];
+        self.tally.count_call(6, statuses[0]);
+        compare(statuses, &[effect], &("join", first, second))
+    }
+
+    pub fn apply(&mut self, effect: &[u32], latch: u16, answers: usize) -> Checked<u8> {
+        let answer = &mut self.answer;
+        answer.mark(answers);
+        let statuses = [
+            host::apply(effect, latch, answer.ours()),
+            library::apply(effect, latch, answer.theirs()),
+        ];
+        self.tally.count_call(7, statuses[0]);
+        compare(statuses, &[answer], &("apply", effect, latch))
+    }
+}

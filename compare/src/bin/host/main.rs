@@ -1,0 +1,297 @@
+//! Compares the proved library with this implementation, call by call over random frames: status
+//! and every number of every slice that the call is lent. Stops at the first difference, which it
+//! keeps as differs.txt and, where it is a frame of the draw program, as differs.script.
+//!
+//! Usage: host [FRAMES [SEED]]; frame n of a seed is frame 0 of the seed n higher.
+
+mod calls;
+mod frame;
+mod lent;
+mod odd;
+
+use calls::{Calls, Checked, Difference};
+use compare::generate::Rng;
+use compare::host::{
+    APPLY_ANSWER, EFFECT, EFFECT_MOST, ROW_ANSWER, SETTINGS_MOST, SHEET_ANSWER, START_ANSWER,
+    STATE, STATE_MOST, UNFIT,
+};
+use compare::rules::CELLS;
+use frame::Frame;
+use std::fmt::Debug;
+use std::hint::black_box;
+use std::{env, process};
+
+/// Most row calls on the states of a frame.
+const ROWS: usize = 60;
+
+/// What a row call left.
+#[derive(PartialEq)]
+struct Drawn {
+    status: u8,
+    state: [u32; STATE],
+    cells: [u32; CELLS],
+    answer: [u32; ROW_ANSWER],
+}
+
+/// What has to hold between calls. `given` is what the calls were given, for where it does not.
+fn must(holds: bool, what: &str, given: &dyn Debug) -> Checked<()> {
+    if holds {
+        return Ok(());
+    }
+    Err(Difference(format!("does not hold: {what}\nof {given:?}")))
+}
+
+fn draw(calls: &mut Calls, frame: &Frame, from: &[u32; STATE]) -> Checked<Drawn> {
+    let status = calls.row(&frame.settings, frame.memory(), from, CELLS, ROW_ANSWER)?;
+    Ok(Drawn {
+        status,
+        state: calls.state.left(),
+        cells: calls.cells.left(),
+        answer: calls.answer.left(),
+    })
+}
+
+/// A row drawn alone: from the latch that the joined effects make of the first one.
+fn draw_alone(
+    calls: &mut Calls,
+    frame: &Frame,
+    drawn: &Drawn,
+    joined: &[u32; EFFECT],
+    latch: u32,
+    reached: &[u32; STATE],
+) -> Checked<()> {
+    let refused = calls.apply(joined, latch as u16, APPLY_ANSWER)?;
+    let answer: [u32; APPLY_ANSWER] = calls.answer.left();
+    if refused != 0 {
+        let same = refused == drawn.status && answer[..2] == drawn.answer[..2];
+        let what = "the joined effects refuse as the row in turn";
+        return must(same, what, &(joined, latch, reached));
+    }
+    let mut from = *reached;
+    from[0] = answer[2];
+    let alone = draw(calls, frame, &from)?;
+    let same = if drawn.status == 0 {
+        alone == *drawn
+    } else {
+        alone.status == drawn.status && alone.answer[..2] == drawn.answer[..2]
+    };
+    must(same, "a row drawn alone is the row in turn", &from)
+}
+
+/// Joins effects in a random grouping, with empty ones among them.
+fn group(calls: &mut Calls, rng: &mut Rng, mut effects: Vec<[u32; EFFECT]>) -> Checked<()> {
+    let mut joined = [0; EFFECT];
+    for effect in &effects {
+        calls.join(&joined, effect, EFFECT)?;
+        joined = calls.effect.left();
+    }
+    effects.insert(rng.below(effects.len() + 1), [0; EFFECT]);
+    while effects.len() > 1 {
+        let n = rng.below(effects.len() - 1);
+        let second = effects.remove(n + 1);
+        calls.join(&effects[n], &second, EFFECT)?;
+        effects[n] = calls.effect.left();
+    }
+    let same = effects[0] == joined;
+    must(same, "effects join alike in any grouping", &joined)
+}
+
+/// Rows from a state on, each in turn and alone, and their effects. Gives the states met.
+fn walk(
+    calls: &mut Calls,
+    rng: &mut Rng,
+    frame: &Frame,
+    first: [u32; STATE],
+) -> Checked<Vec<[u32; STATE]>> {
+    let (settings, memory) = (&frame.settings, frame.memory());
+    let mut states = vec![first];
+    let mut state = first;
+    let mut reached = first;
+    let mut joined = [0; EFFECT];
+    let mut effects = Vec::new();
+    let mut refused = 0;
+    while states.len() < ROWS && refused < 2 {
+        if rng.once_in(12) {
+            let cells = rng.pick(&[0, 1, 131, 133, 264]);
+            calls.row(settings, memory, &state, cells, ROW_ANSWER)?;
+        }
+        let drawn = draw(calls, frame, &state)?;
+        if drawn.status == UNFIT {
+            break;
+        }
+        draw_alone(calls, frame, &drawn, &joined, first[0], &reached)?;
+        reached[0] = rng.word().into();
+        calls.effect(settings, memory, &reached, EFFECT)?;
+        reached = calls.state.left();
+        let effect = calls.effect.left();
+        effects.push(effect);
+        calls.join(&joined, &effect, EFFECT)?;
+        joined = calls.effect.left();
+        refused += u32::from(drawn.status != 0);
+        state = drawn.state;
+        states.push(state);
+    }
+    group(calls, rng, effects)?;
+    Ok(states)
+}
+
+/// A state's row and its effect: same refusal, or same latch and other fields of the next state.
+fn row_and_effect(calls: &mut Calls, frame: &Frame, from: &[u32; STATE]) -> Checked<()> {
+    let drawn = draw(calls, frame, from)?;
+    let status = calls.effect(&frame.settings, frame.memory(), from, EFFECT)?;
+    if status == UNFIT {
+        return must(drawn.status == UNFIT, "an effect is unfit as its row", from);
+    }
+    let reached: [u32; STATE] = calls.state.left();
+    let effect: [u32; EFFECT] = calls.effect.left();
+    let status = calls.apply(&effect, from[0] as u16, APPLY_ANSWER)?;
+    let answer: [u32; APPLY_ANSWER] = calls.answer.left();
+    let same = if status == 0 {
+        answer[2] == drawn.state[0] && reached[1..] == drawn.state[1..]
+    } else {
+        answer[..2] == drawn.answer[..2]
+    };
+    let same = same && status == drawn.status;
+    must(same, "an effect is that of its row", from)
+}
+
+/// Rows and effects of states that no start gives.
+fn odd_states(
+    calls: &mut Calls,
+    rng: &mut Rng,
+    frame: &Frame,
+    real: &[[u32; STATE]],
+) -> Checked<()> {
+    for _ in 0..8 {
+        let real = rng.pick(real);
+        let state = odd::state(rng, &real, frame.memory().len());
+        row_and_effect(calls, frame, &state)?;
+    }
+    Ok(())
+}
+
+/// Sheets, starts and rows of settings changed at random.
+fn odd_settings(
+    calls: &mut Calls,
+    rng: &mut Rng,
+    frame: &Frame,
+    real: &[[u32; STATE]],
+) -> Checked<()> {
+    for _ in 0..4 {
+        let settings = odd::settings(rng, &frame.settings);
+        calls.sheet(&settings, SHEET_ANSWER)?;
+        calls.start(&settings, frame.memory(), STATE, START_ANSWER)?;
+        let state = rng.pick(real);
+        calls.row(&settings, frame.memory(), &state, CELLS, ROW_ANSWER)?;
+        calls.effect(&settings, frame.memory(), &state, EFFECT)?;
+    }
+    Ok(())
+}
+
+/// Effects of no row, joined in two groupings and applied.
+fn odd_effects(calls: &mut Calls, rng: &mut Rng) -> Checked<()> {
+    let effects: Vec<_> = (0..4).map(|_| odd::effect(rng)).collect();
+    let mut fit = Vec::new();
+    for effect in &effects {
+        if calls.apply(effect, rng.word(), APPLY_ANSWER)? != UNFIT {
+            fit.push(*effect);
+        }
+        calls.join(&rng.pick(&effects), effect, EFFECT)?;
+    }
+    group(calls, rng, fit)
+}
+
+/// One call with a slice that does not fit: 255, and nothing is written.
+fn unfit(calls: &mut Calls, rng: &mut Rng, frame: &Frame, real: &[u32; STATE]) -> Checked<()> {
+    let (settings, memory) = (&frame.settings, frame.memory());
+    let bad_settings = odd::unfit(rng, settings, &SETTINGS_MOST);
+    let bad_state = odd::unfit(rng, real, &STATE_MOST);
+    let effect = odd::effect(rng);
+    let bad_effect = odd::unfit(rng, &effect, &EFFECT_MOST);
+    let cells = rng.pick(&[CELLS, CELLS, 0, 133]);
+    let latch = rng.word();
+    let status = match rng.below(15) {
+        0 => calls.sheet(&bad_settings, SHEET_ANSWER),
+        1 => calls.sheet(settings, odd::count(rng, SHEET_ANSWER)),
+        2 => calls.start(&bad_settings, memory, STATE, START_ANSWER),
+        3 => calls.start(settings, memory, odd::count(rng, STATE), START_ANSWER),
+        4 => calls.start(settings, memory, STATE, odd::count(rng, START_ANSWER)),
+        5 => calls.row(&bad_settings, memory, real, cells, ROW_ANSWER),
+        6 => calls.row(settings, memory, &bad_state, cells, ROW_ANSWER),
+        7 => calls.row(settings, memory, real, cells, odd::count(rng, ROW_ANSWER)),
+        8 => calls.effect(&bad_settings, memory, real, EFFECT),
+        9 => calls.effect(settings, memory, &bad_state, EFFECT),
+        10 => calls.effect(settings, memory, real, odd::count(rng, EFFECT)),
+        11 => calls.join(&bad_effect, &effect, EFFECT),
+        12 => calls.join(&effect, &bad_effect, EFFECT),
+        13 => calls.apply(&bad_effect, latch, APPLY_ANSWER),
+        _ => calls.apply(&effect, latch, odd::count(rng, APPLY_ANSWER)),
+    }?;
+    let given = (bad_settings, bad_state, bad_effect);
+    must(
+        status == UNFIT,
+        "a slice that does not fit gives 255",
+        &given,
+    )
+}
+
+/// All calls of a frame.
+fn compare(calls: &mut Calls, rng: &mut Rng, frame: &Frame) -> Checked<()> {
+    calls.sheet(&frame.settings, SHEET_ANSWER)?;
+    let status = calls.start(&frame.settings, frame.memory(), STATE, START_ANSWER)?;
+    let mut real = Vec::new();
+    if status == 0 {
+        let first = calls.state.left();
+        real.extend(walk(calls, rng, frame, first)?);
+    }
+    if let Some(state) = frame.state {
+        real.extend(walk(calls, rng, frame, state)?);
+    }
+    if real.is_empty() {
+        real.push([0; STATE]);
+    }
+    odd_settings(calls, rng, frame, &real)?;
+    odd_states(calls, rng, frame, &real)?;
+    odd_effects(calls, rng)?;
+    for _ in 0..6 {
+        unfit(calls, rng, frame, &rng.clone().pick(&real))?;
+    }
+    Ok(())
+}
+
+/// The numbers of the command line: frames and seed.
+fn arguments() -> Option<(u64, u64)> {
+    let numbers: Result<Vec<u64>, _> = env::args().skip(1).map(|a| a.parse()).collect();
+    match numbers.ok()?[..] {
+        [] => Some((1000, 8052)),
+        [frames] => Some((frames, 8052)),
+        [frames, seed] => Some((frames, seed)),
+        _ => None,
+    }
+}
+
+fn main() {
+    let Some((frames, seed)) = arguments() else {
+        eprintln!("usage: host [FRAMES [SEED]]");
+        process::exit(2);
+    };
+    let mut calls = Calls::new();
+    for seed in seed..seed + frames {
+        let frame = Frame::new(&mut Rng::new(seed));
+        let compared = compare(&mut calls, &mut Rng::new(!seed), black_box(&frame));
+        let compared = compared.and_then(|()| {
+            let again = Frame::new(&mut Rng::new(seed));
+            must(frame.same(&again), "settings and memory stay", &())
+        });
+        if let Err(Difference(text)) = compared {
+            let text = format!("seed {seed}: {text}");
+            eprintln!("{text}");
+            if let Err(error) = frame.keep(&text) {
+                eprintln!("not kept: {error}");
+            }
+            process::exit(1);
+        }
+    }
+    println!("{frames} frames: all equal; calls by status:");
+    calls.tally.print();
+}

@@ -1,0 +1,368 @@
+//! The calls of include/thagaduvin.h over slices of numbers, on top of the rules. The header has
+//! the tables of places; a slice that does not fit its table gives 255 and nothing is written.
+
+use crate::rules::{
+    self, Effect, Fields, Interlace, Part, Refusal, Row, Settings, Sheet, State, Window,
+};
+
+/// The status of a slice with a wrong count, or with a number that its place cannot have.
+pub const UNFIT: u8 = 255;
+
+/// Counts of the slices.
+pub const SETTINGS: usize = 17;
+pub const STATE: usize = 19;
+pub const EFFECT: usize = 10;
+pub const SHEET_ANSWER: usize = 13;
+pub const START_ANSWER: usize = 3;
+pub const ROW_ANSWER: usize = 7;
+pub const APPLY_ANSWER: usize = 3;
+
+const ANY: u32 = u32::MAX;
+
+/// The highest number that each place can have.
+pub const SETTINGS_MOST: [u32; SETTINGS] = [
+    1, 1, 2, 1, 0xFFFF, 0xFFFF, 0xFFFF, 0xFFFF, 0xFFFF, 0xFFFF, 0xFFFF, 0xFFFF, 0xFFFF, 0xFFFF,
+    0xFFFF, 0xFFFF, 0xFFFF,
+];
+pub const STATE_MOST: [u32; STATE] = [
+    0xFFFF, 0xFFFF, 0xFFFF, 255, 255, 255, 1, 255, 0xFFFF, 255, 255, ANY, 1, 255, 255, 255, 255,
+    ANY, ANY,
+];
+pub const EFFECT_MOST: [u32; EFFECT] = [
+    13, 0xFFFF, ANY, 1, 0xFFFF, //
+    13, 0xFFFF, ANY, 1, 0xFFFF,
+];
+
+/// The numbers of a slice, if there are as many as highest ones and none is above its own.
+#[inline]
+fn within<'n, const N: usize>(numbers: &'n [u32], most: &[u32; N]) -> Option<&'n [u32; N]> {
+    let numbers: &[u32; N] = numbers.try_into().ok()?;
+    let mut above = false;
+    for (number, most) in numbers.iter().zip(most) {
+        above |= number > most;
+    }
+    (!above).then_some(numbers)
+}
+
+#[inline]
+fn settings_of(numbers: &[u32]) -> Option<Settings> {
+    let n = within(numbers, &SETTINGS_MOST)?;
+    Some(Settings {
+        linear: n[0] != 0,
+        display_hidden: n[1] != 0,
+        interlace: match n[2] {
+            0 => Interlace::None,
+            1 => Interlace::RepeatField,
+            _ => Interlace::Video,
+        },
+        cursor: n[3] != 0,
+        flag: n[4] as u16,
+        top: [n[5] as u16, n[6] as u16],
+        tow: [n[7] as u16, n[8] as u16],
+        vsw: n[9] as u16,
+        vsd: n[10] as u16,
+        val: n[11] as u16,
+        vtot: n[12] as u16,
+        hsync: n[13] as u16,
+        hsd: n[14] as u16,
+        htc: n[15] as u16,
+        htd: n[16] as u16,
+    })
+}
+
+#[inline]
+fn state_of(numbers: &[u32]) -> Option<State> {
+    let n = within(numbers, &STATE_MOST)?;
+    let window = (n[12] != 0).then_some(Window {
+        first_row: n[13],
+        last_row: n[14],
+        first_column: n[15],
+        last_column: n[16],
+        next_row: n[17],
+        next_block: n[18],
+    });
+    Some(State {
+        latch: n[0] as u16,
+        fields: Fields {
+            row: n[1],
+            lines_left: n[2],
+            cursor_x: n[3] as u8,
+            cursor_y: n[4] as u8,
+            fill_code: n[5] as u8,
+            fill_flag: n[6] != 0,
+            scan_lines: n[7],
+            attributes: n[8],
+            curs: n[9],
+            cure: n[10],
+            next_row: n[11],
+            window,
+        },
+    })
+}
+
+#[inline]
+fn part_of(n: &[u32]) -> Part {
+    match (n[0], n[3]) {
+        (0, 0) => Part::Keep,
+        (0, _) => Part::Set(n[4] as u16),
+        (number, _) => Part::Refuse(Refusal {
+            number: number as u8,
+            row: n[1],
+            address: n[2],
+        }),
+    }
+}
+
+#[inline]
+fn effect_of(numbers: &[u32]) -> Option<Effect> {
+    let n = within(numbers, &EFFECT_MOST)?;
+    Some(Effect {
+        clear: part_of(&n[..5]),
+        set: part_of(&n[5..]),
+    })
+}
+
+/// The numbers of settings.
+pub fn settings_numbers(s: &Settings) -> [u32; SETTINGS] {
+    let interlace = match s.interlace {
+        Interlace::None => 0,
+        Interlace::RepeatField => 1,
+        Interlace::Video => 2,
+    };
+    [
+        s.linear.into(),
+        s.display_hidden.into(),
+        interlace,
+        s.cursor.into(),
+        s.flag.into(),
+        s.top[0].into(),
+        s.top[1].into(),
+        s.tow[0].into(),
+        s.tow[1].into(),
+        s.vsw.into(),
+        s.vsd.into(),
+        s.val.into(),
+        s.vtot.into(),
+        s.hsync.into(),
+        s.hsd.into(),
+        s.htc.into(),
+        s.htd.into(),
+    ]
+}
+
+/// Writes a state's numbers one by one: an array of them, copied as a whole, is slower.
+#[inline]
+fn write_state(state: &State, n: &mut [u32; STATE]) {
+    let f = &state.fields;
+    n[0] = state.latch.into();
+    n[1] = f.row;
+    n[2] = f.lines_left;
+    n[3] = f.cursor_x.into();
+    n[4] = f.cursor_y.into();
+    n[5] = f.fill_code.into();
+    n[6] = f.fill_flag.into();
+    n[7] = f.scan_lines;
+    n[8] = f.attributes;
+    n[9] = f.curs;
+    n[10] = f.cure;
+    n[11] = f.next_row;
+    match &f.window {
+        None => n[12..].fill(0),
+        Some(w) => {
+            n[12] = 1;
+            n[13] = w.first_row;
+            n[14] = w.last_row;
+            n[15] = w.first_column;
+            n[16] = w.last_column;
+            n[17] = w.next_row;
+            n[18] = w.next_block;
+        }
+    }
+}
+
+/// The numbers of a state, whether or not its places can have them.
+pub fn state_numbers(state: &State) -> [u32; STATE] {
+    let mut numbers = [0; STATE];
+    write_state(state, &mut numbers);
+    numbers
+}
+
+#[inline]
+fn part_numbers(part: Part) -> [u32; 5] {
+    match part {
+        Part::Keep => [0; 5],
+        Part::Set(word) => [0, 0, 0, 1, word.into()],
+        Part::Refuse(refusal) => [refusal.number.into(), refusal.row, refusal.address, 0, 0],
+    }
+}
+
+#[inline]
+fn write_effect(effect: &Effect, to: &mut [u32; EFFECT]) {
+    to[..5].copy_from_slice(&part_numbers(effect.clear));
+    to[5..].copy_from_slice(&part_numbers(effect.set));
+}
+
+/// A refusal in an answer, and its status.
+#[inline]
+fn refuse(refusal: Refusal, answer: &mut [u32]) -> u8 {
+    answer[0] = refusal.row;
+    answer[1] = refusal.address;
+    refusal.number
+}
+
+fn sheet_numbers(sheet: &Sheet) -> [u32; SHEET_ANSWER] {
+    [
+        0,
+        0,
+        sheet.sync,
+        sheet.back,
+        sheet.active,
+        sheet.front,
+        sheet.field,
+        sheet.lines,
+        sheet.horizontal_sync,
+        sheet.horizontal_period,
+        sheet.blank_rise,
+        sheet.blank_fall,
+        sheet.invoking,
+    ]
+}
+
+#[inline]
+fn row_numbers(row: &Row) -> [u32; ROW_ANSWER] {
+    [
+        row.row,
+        0,
+        row.lines,
+        row.attributes,
+        row.curs,
+        row.cure,
+        row.words,
+    ]
+}
+
+/// The settings sheet.
+#[inline(never)]
+pub fn sheet(settings: &[u32], answer: &mut [u32]) -> u8 {
+    let Ok(answer) = <&mut [u32; SHEET_ANSWER]>::try_from(answer) else {
+        return UNFIT;
+    };
+    let Some(settings) = settings_of(settings) else {
+        return UNFIT;
+    };
+    match rules::sheet(&settings) {
+        Ok(sheet) => {
+            *answer = sheet_numbers(&sheet);
+            0
+        }
+        Err(refusal) => refuse(refusal, answer),
+    }
+}
+
+/// A frame's first state.
+#[inline(never)]
+pub fn start(settings: &[u32], memory: &[u16], state: &mut [u32], answer: &mut [u32]) -> u8 {
+    let Ok(state) = <&mut [u32; STATE]>::try_from(state) else {
+        return UNFIT;
+    };
+    let Ok(answer) = <&mut [u32; START_ANSWER]>::try_from(answer) else {
+        return UNFIT;
+    };
+    let Some(settings) = settings_of(settings) else {
+        return UNFIT;
+    };
+    match rules::start(&settings, memory) {
+        Ok(start) => {
+            write_state(&start.state, state);
+            *answer = [0, 0, start.words];
+            0
+        }
+        Err(refusal) => refuse(refusal, answer),
+    }
+}
+
+/// The row of a state, and the next state.
+#[inline(never)]
+pub fn row(
+    settings: &[u32],
+    memory: &[u16],
+    state: &mut [u32],
+    cells: &mut [u32],
+    answer: &mut [u32],
+) -> u8 {
+    let Ok(answer) = <&mut [u32; ROW_ANSWER]>::try_from(answer) else {
+        return UNFIT;
+    };
+    let Ok(state) = <&mut [u32; STATE]>::try_from(state) else {
+        return UNFIT;
+    };
+    let Some(settings) = settings_of(settings) else {
+        return UNFIT;
+    };
+    let Some(mut next) = state_of(state) else {
+        return UNFIT;
+    };
+    match rules::row(&settings, memory, &mut next, cells) {
+        Ok(row) => {
+            write_state(&next, state);
+            *answer = row_numbers(&row);
+            0
+        }
+        Err(refusal) => refuse(refusal, answer),
+    }
+}
+
+/// The effect of the row of a state, and the next state but for its latch.
+#[inline(never)]
+pub fn effect(settings: &[u32], memory: &[u16], state: &mut [u32], effect: &mut [u32]) -> u8 {
+    let Ok(effect) = <&mut [u32; EFFECT]>::try_from(effect) else {
+        return UNFIT;
+    };
+    let Ok(state) = <&mut [u32; STATE]>::try_from(state) else {
+        return UNFIT;
+    };
+    let Some(settings) = settings_of(settings) else {
+        return UNFIT;
+    };
+    let Some(from) = state_of(state) else {
+        return UNFIT;
+    };
+    let (made, next) = rules::effect(&settings, memory, &from.fields);
+    write_effect(&made, effect);
+    if let Some(fields) = next {
+        let latch = from.latch;
+        write_state(&State { latch, fields }, state);
+    }
+    0
+}
+
+/// One effect and then another.
+#[inline(never)]
+pub fn join(first: &[u32], second: &[u32], joined: &mut [u32]) -> u8 {
+    let Ok(joined) = <&mut [u32; EFFECT]>::try_from(joined) else {
+        return UNFIT;
+    };
+    let (Some(first), Some(second)) = (effect_of(first), effect_of(second)) else {
+        return UNFIT;
+    };
+    write_effect(&first.join(second), joined);
+    0
+}
+
+/// The latch that an effect makes of one.
+#[inline(never)]
+pub fn apply(effect: &[u32], latch: u16, answer: &mut [u32]) -> u8 {
+    let Ok(answer) = <&mut [u32; APPLY_ANSWER]>::try_from(answer) else {
+        return UNFIT;
+    };
+    let Some(effect) = effect_of(effect) else {
+        return UNFIT;
+    };
+    match effect.apply(latch) {
+        Ok(latch) => {
+            *answer = [0, 0, latch.into()];
+            0
+        }
+        Err(refusal) => refuse(refusal, answer),
+    }
+}
