@@ -1,9 +1,18 @@
-//! Measures rows and effects per second.
+//! Measures rows and effects: the proved library through its host calls, this implementation
+//! through the same slices, and this implementation called directly. The three take turns in
+//! short rounds, so that whatever else the machine does falls on all alike.
+//!
+//! Usage: measure [PART OF A NAME]
 
-use compare::rules::{effect, row, start, Settings, State, CELLS};
+use compare::host::{self, EFFECT, ROW_ANSWER, SETTINGS as SETTINGS_COUNT, STATE};
+use compare::library;
+use compare::rules::{self, Settings, State, CELLS};
 use compare::script::UNSET;
 use std::hint::black_box;
 use std::time::Instant;
+
+const ROUNDS: usize = 2000;
+const CALLS: u32 = 200;
 
 const SETTINGS: Settings = Settings {
     linear: true,
@@ -28,6 +37,13 @@ fn codes(memory: &mut [u16], address: usize, count: usize, every: usize) {
         let code = if invoking { 0xC1 } else { 0x41 } + (n % 26) as u16;
         let word = &mut memory[address / 2 + n / 2];
         *word |= if n % 2 == 0 { code << 8 } else { code };
+    }
+}
+
+/// Attribute words at 400, every other one of which latches.
+fn attributes(memory: &mut [u16]) {
+    for n in 0..0x100 {
+        memory[0x200 + n] = if n % 2 == 0 { 0x8000 } else { 0 } | (n as u16 & 0x7F);
     }
 }
 
@@ -58,13 +74,37 @@ fn dense(fill: u16, every: usize, list: bool) -> (Settings, Vec<u16>) {
     for place in [0x200, 0x240, 0x280, 0x2C0] {
         codes(&mut memory, place, 44, every);
     }
-    for n in 0..0x100 {
-        // Every other word latches.
-        memory[0x200 + n] = if n % 2 == 0 { 0x8000 } else { 0 } | (n as u16 & 0x7F);
-    }
+    attributes(&mut memory);
     write(&mut memory, 0x180, &[0, 0, 0, 0x1A0, 0x00FF, 44 << 8 | 87]);
     write(&mut memory, 0x1A0, &[0, 0x1A0, 1]);
     write(&mut memory, 0x1A6, &segment(0x2C0, at(0x580), 44, 44));
+    (
+        Settings {
+            tow: [0, 0x180],
+            ..SETTINGS
+        },
+        memory,
+    )
+}
+
+/// 176 words: 132 characters in eight segments and a window of three, with a ninth segment
+/// under the window.
+fn divided() -> (Settings, Vec<u16>) {
+    let mut segments = Vec::new();
+    for n in 0..11 {
+        let (code, list) = (0x200 + n * 0x10, 0x400 + n * 0x10);
+        segments.push(segment(code, list, 12, 12));
+    }
+    let over = segments.split_off(8);
+    segments.insert(4, segment(0x300, 0x600, 36, 36));
+    let mut memory = board(0x20, &segments);
+    for n in 0..11 {
+        codes(&mut memory, 0x200 + n * 0x10, 12, 3);
+    }
+    attributes(&mut memory);
+    write(&mut memory, 0x180, &[0, 0, 0, 0x1A0, 0x00FF, 48 << 8 | 83]);
+    write(&mut memory, 0x1A0, &[0, 0x1A0, 3]);
+    write(&mut memory, 0x1A6, &over.concat());
     (
         Settings {
             tow: [0, 0x180],
@@ -79,25 +119,175 @@ fn text(every: usize, list: bool) -> (Settings, Vec<u16>) {
     let list = if list { 0x400 } else { 0 };
     let mut memory = board(0x20, &[segment(0x200, list, 132, 132)]);
     codes(&mut memory, 0x200, 132, every);
-    for n in 0..0x100 {
-        memory[0x200 + n] = if n % 2 == 0 { 0x8000 } else { 0 } | (n as u16 & 0x7F);
-    }
+    attributes(&mut memory);
     (SETTINGS, memory)
 }
 
-/// Nanoseconds for one call, the best of several rounds.
-fn best(mut call: impl FnMut()) -> f64 {
-    let rounds = 150;
-    let calls = 10_000;
-    let mut best = f64::MAX;
-    for _ in 0..rounds {
-        let begun = Instant::now();
-        for _ in 0..calls {
-            call();
-        }
-        best = best.min(begun.elapsed().as_nanos() as f64 / f64::from(calls));
+/// A frame's first state and what a call is lent.
+#[repr(align(64))]
+struct Bench {
+    begun: [u32; STATE],
+    state: [u32; STATE],
+    settings: [u32; SETTINGS_COUNT],
+    cells: [u32; CELLS],
+    answer: [u32; ROW_ANSWER],
+    effect: [u32; EFFECT],
+    memory: Vec<u16>,
+    direct_settings: Settings,
+    direct_begun: State,
+}
+
+/// Nanoseconds for one call in a round.
+#[inline]
+fn round(mut call: impl FnMut()) -> f64 {
+    let begun = Instant::now();
+    for _ in 0..CALLS {
+        call();
     }
-    best
+    begun.elapsed().as_nanos() as f64 / f64::from(CALLS)
+}
+
+impl Bench {
+    fn new((settings, memory): (Settings, Vec<u16>)) -> Bench {
+        let begun = rules::start(&settings, &memory)
+            .expect("a good start")
+            .state;
+        Bench {
+            begun: host::state_numbers(&begun),
+            state: [0; STATE],
+            settings: host::settings_numbers(&settings),
+            cells: [0; CELLS],
+            answer: [0; ROW_ANSWER],
+            effect: [0; EFFECT],
+            memory,
+            direct_settings: settings,
+            direct_begun: begun,
+        }
+    }
+
+    /// A round of row calls over slices.
+    #[inline]
+    fn rows(
+        &mut self,
+        call: impl Fn(&[u32], &[u16], &mut [u32], &mut [u32], &mut [u32]) -> u8,
+    ) -> f64 {
+        round(|| {
+            self.state = *black_box(&self.begun);
+            let status = call(
+                black_box(&self.settings),
+                black_box(&self.memory),
+                black_box(&mut self.state),
+                black_box(&mut self.cells),
+                black_box(&mut self.answer),
+            );
+            assert_eq!(status, 0);
+        })
+    }
+
+    #[inline(never)]
+    fn library_rows(&mut self) -> f64 {
+        self.rows(library::row)
+    }
+
+    #[inline(never)]
+    fn host_rows(&mut self) -> f64 {
+        self.rows(host::row)
+    }
+
+    #[inline(never)]
+    fn direct_rows(&mut self) -> f64 {
+        round(|| {
+            let mut state = *black_box(&self.direct_begun);
+            let answer = rules::row(
+                black_box(&self.direct_settings),
+                black_box(&self.memory),
+                black_box(&mut state),
+                black_box(&mut self.cells),
+            );
+            assert!(black_box(&answer).is_ok());
+            black_box(&state);
+        })
+    }
+
+    /// A round of effect calls over slices.
+    #[inline]
+    fn effects(&mut self, call: impl Fn(&[u32], &[u16], &mut [u32], &mut [u32]) -> u8) -> f64 {
+        round(|| {
+            self.state = *black_box(&self.begun);
+            let status = call(
+                black_box(&self.settings),
+                black_box(&self.memory),
+                black_box(&mut self.state),
+                black_box(&mut self.effect),
+            );
+            assert_eq!(status, 0);
+        })
+    }
+
+    #[inline(never)]
+    fn library_effects(&mut self) -> f64 {
+        self.effects(library::effect)
+    }
+
+    #[inline(never)]
+    fn host_effects(&mut self) -> f64 {
+        self.effects(host::effect)
+    }
+
+    #[inline(never)]
+    fn direct_effects(&mut self) -> f64 {
+        round(|| {
+            black_box(rules::effect(
+                black_box(&self.direct_settings),
+                black_box(&self.memory),
+                black_box(&self.direct_begun.fields),
+            ));
+        })
+    }
+}
+
+/// Best and median of rounds.
+fn summary(times: &[f64]) -> [f64; 2] {
+    let mut times = times.to_vec();
+    times.sort_unstable_by(f64::total_cmp);
+    [times[0], times[times.len() / 2]]
+}
+
+/// The words that the frame's row reads, as both sides say.
+fn words(bench: &mut Bench) -> u32 {
+    bench.library_rows();
+    let (cells, answer) = (bench.cells, bench.answer);
+    bench.host_rows();
+    assert!(cells == bench.cells && answer == bench.answer);
+    answer[6]
+}
+
+/// Measures a frame: three kinds of call that take turns.
+fn measure(name: &str, frame: (Settings, Vec<u16>), kinds: [fn(&mut Bench) -> f64; 3]) {
+    if !wanted(name) {
+        return;
+    }
+    let mut bench = Bench::new(frame);
+    let words = words(&mut bench);
+    let mut times = [const { Vec::new() }; 3];
+    for _ in 0..ROUNDS {
+        for (kind, times) in kinds.iter().zip(&mut times) {
+            times.push(kind(&mut bench));
+        }
+    }
+    let rounds = times[1].iter().zip(&times[0]);
+    let ratios: Vec<f64> = rounds.map(|(host, library)| host / library).collect();
+    let [library, host, direct] = times.map(|times| summary(&times));
+    print!("| {name} | {words} ");
+    for [best, median] in [library, host] {
+        print!("| {best:.1} | {median:.1} | {:.2} ", 1000.0 / best);
+    }
+    print!(
+        "| {:.2} | {:.2} ",
+        host[0] / library[0],
+        summary(&ratios)[1]
+    );
+    println!("| {:.1} | {:.1} |", direct[0], direct[1]);
 }
 
 /// Whether a measurement is asked for: all are without an argument.
@@ -107,89 +297,71 @@ fn wanted(name: &str) -> bool {
         .is_none_or(|part| name.contains(&part))
 }
 
-fn report(name: &str, nanoseconds: f64) {
-    println!(
-        "{name:44} {nanoseconds:8.1} ns {:10.2} million/s",
-        1000.0 / nanoseconds
-    );
+fn rows(name: &str, frame: (Settings, Vec<u16>)) {
+    let kinds = [Bench::library_rows, Bench::host_rows, Bench::direct_rows];
+    measure(name, frame, kinds);
 }
 
-fn rows(name: &str, (settings, memory): &(Settings, Vec<u16>)) {
-    if !wanted(name) {
-        return;
-    }
-    let begun = start(settings, memory).expect("a good start").state;
-    let mut buffer = [0; CELLS];
-    let time = best(|| {
-        let mut state: State = *black_box(&begun);
-        let answer = row(
-            settings,
-            black_box(memory),
-            &mut state,
-            black_box(&mut buffer),
-        );
-        let _ = black_box((answer.expect("a good row"), state));
-    });
-    report(name, time);
+fn effects(name: &str, frame: (Settings, Vec<u16>)) {
+    let kinds = [
+        Bench::library_effects,
+        Bench::host_effects,
+        Bench::direct_effects,
+    ];
+    measure(name, frame, kinds);
 }
 
-fn effects(name: &str, (settings, memory): &(Settings, Vec<u16>)) {
-    if !wanted(name) {
-        return;
-    }
-    let begun = start(settings, memory).expect("a good start").state;
-    let time = best(|| {
-        black_box(effect(
-            settings,
-            black_box(memory),
-            black_box(&begun.fields),
-        ));
-    });
-    report(name, time);
-}
+const HEAD: &str = "\
+Rust is the implementation in this folder, through the same slices as the library, and directly.
+Ratio: time of Rust / time of the library; at 1 or more the library is at least as fast. The first
+is of the bests, the second the median of the ratios in each round.
+
+| case | words | library best | median | M/s | Rust best | median | M/s | ratio | median | direct best | median |
+|---|---|---|---|---|---|---|---|---|---|---|---|";
 
 fn main() {
+    println!("Nanoseconds a call in {ROUNDS} rounds of {CALLS} calls; M/s: millions of calls a second, from the best.");
+    println!("{HEAD}");
     rows(
         "row, dense: 3 segments and window, 1 in 3",
-        &dense(0x20, 3, true),
+        dense(0x20, 3, true),
     );
-    rows(
-        "row, the same without invoking codes",
-        &dense(0x20, 0, true),
-    );
-    rows("row, text of 132 without a list", &text(0, false));
-    rows("row, text of 132 with a list, 1 in 3", &text(3, true));
-    rows("row, text of 132 with a list, none invokes", &text(0, true));
-    rows("row, text of 132 with a list, 1 in 20", &text(20, true));
-    rows("row, fill only, no row block", &{
-        let mut board = board(0x20, &[]);
-        write(&mut board, 0x10, &[0, 0]);
-        (SETTINGS, board)
+    rows("row, dense: 9 segments and window of 3, 1 in 3", divided());
+    rows("row, dense without invoking codes", dense(0x20, 0, true));
+    rows("row, text without a list", text(0, false));
+    rows("row, text with a list, none invokes", text(0, true));
+    rows("row, text with a list, 1 in 3", text(3, true));
+    rows("row, fill only: no row block", {
+        let mut memory = board(0x20, &[]);
+        write(&mut memory, 0x10, &[0, 0]);
+        (SETTINGS, memory)
     });
     rows(
-        "row, fill only, block without segments",
-        &(SETTINGS, board(0x20, &[])),
+        "row, fill only: block without segments",
+        (SETTINGS, board(0x20, &[])),
     );
-    rows("row, fill only, 3 segments", &{
+    rows("row, fill only: 3 segments", {
         let segments = [segment(0, 0, 0, 44); 3];
         (SETTINGS, board(0x20, &segments))
     });
-    rows("row, fill only, 3 segments, fill words", &{
+    rows("row, fill only: 3 segments with fill words", {
         let segments = [segment(0, 0x400, 0, 44); 3];
-        let mut board = board(0x120, &segments);
-        write(&mut board, 0x400, &[0x8001]);
-        (SETTINGS, board)
+        let mut memory = board(0x120, &segments);
+        write(&mut memory, 0x400, &[0x8001]);
+        (SETTINGS, memory)
     });
-    effects("effect, dense", &dense(0x20, 3, true));
-    effects("effect, dense, fill flag", &dense(0x120, 3, true));
-    effects("effect, text of 132 with a list, fill flag", &{
-        let (settings, mut memory) = text(0, true);
-        write(&mut memory, 0x16, &[0x120]);
-        (settings, memory)
-    });
-    effects("effect, text of 132 without a list", &text(0, false));
     effects(
-        "effect, block without segments",
-        &(SETTINGS, board(0x20, &[])),
+        "effect, dense: 3 segments and window, 1 in 3",
+        dense(0x20, 3, true),
+    );
+    effects(
+        "effect, dense: 9 segments and window of 3, 1 in 3",
+        divided(),
+    );
+    effects("effect, dense with fill flag", dense(0x120, 3, true));
+    effects("effect, text without a list", text(0, false));
+    effects(
+        "effect, fill only: block without segments",
+        (SETTINGS, board(0x20, &[])),
     );
 }
