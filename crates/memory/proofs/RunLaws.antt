@@ -1,17 +1,15 @@
 -- Words that stand one after the other in memory: the address some words further as one sum, and what such a run reads.
-use mathlib.Core.Path.{_≡_, refl, ap, ap₂, sym, _∙_}
-use mathlib.Core.List.{List, []}
+use mathlib.Core.Path.{_≡_, refl, ap, sym, _∙_}
+use mathlib.Core.List.{List}
 use mathlib.Core.Bool.{Bool, true, false}
 use Prim.Native.Nat.{ℕ, zero, suc, _+_, _-_, _*_, _/_, _%_, _≤_, _<_}
 use native.Mathlib.Omega.{arith}
-use lib.ListN.{length, getD, take, drop}
+use lib.ListN.{length, getD}
 use lib.Dec.{leb}
-use lib.Seq.{drop-cons}
 use borrow.Author.Tests.{leb-true, leb-false, le-leb, lt-leb, lt-ltb}
 use Rattle.memory.specs.declared.Fetch.the-variants.{Word}
-use Rattle.memory.specs.Reading.{_>>=_, fetch, given, runFrom, run}
+use Rattle.memory.specs.Reading.{_>>=_, fetch, run}
 use Rattle.memory.specs.Address.{nextWord, ahead, isRun, words}
-use Rattle.memory.proofs.Laws.{ask-word, bind-given, run-done}
 use Rattle.memory.proofs.ReadBounds.{both}
 
 -- whether k places from i on end by a place, without the sum
@@ -32,6 +30,11 @@ pub ahead-paged : (k a : ℕ) → ahead false k a ≡ a / 65536 * 65536 + (a + 2
 unfolding ahead nextWord
 ahead-paged zero a = omega arith
 ahead-paged (suc k) a = ahead-paged k (a / 65536 * 65536 + (a + 2) % 65536) ∙ omega arith
+
+pub ahead-next : (l : Bool) (k a : ℕ) → nextWord l (ahead l k a) ≡ ahead l (suc k) a
+unfolding ahead
+ahead-next l zero a = refl
+ahead-next l (suc k) a = ahead-next l k (nextWord l a)
 
 -- what a run is: it ends in memory, and no address before its end wraps
 module _ (len a k : ℕ) where
@@ -70,18 +73,3 @@ run-fetch l m a k j h i =
     let end = run-ends (length m) a k l h in
     let at : (a + 2 * j) / 2 ≡ a / 2 + j = omega arith in
     ap (fetch m) (run-ahead (length m) a k l j h i) ∙ rw (at, lt-ltb (a / 2 + j) (length m) (omega arith))
-
-words-there : (n : ℕ) (m : List ℕ) (l : Bool) (k p a : ℕ) → p + k ≤ length m
-    → ((j : ℕ) → j < k → fetch m (ahead l j a) ≡ Word (getD m (p + j) 0)) → runFrom n m (words l k a) ≡ given (n + k) (take k (drop p m))
-unfolding words ahead _>>=_
-words-there n m l zero p a h f = run-done _ _ _ ∙ ap (λ (i : ℕ). given i []) (omega arith)
-words-there n m l (suc k) p a h f =
-    let first : fetch m a ≡ Word (getD m p 0) = f 0 (omega arith) ∙ ap (λ (i : ℕ). Word (getD m i 0)) (omega arith) in
-    let rest = words-there (n + 1) m l k (suc p) (nextWord l a) (omega arith) λ j i. f (suc j) (omega arith) ∙ ap (λ (i : ℕ). Word (getD m i 0)) (omega arith) in
-    ask-word n m a _ _ first ∙ bind-given (n + 1) m _ _ rest ∙ run-done _ _ _
-    ∙ ap₂ given (omega arith) (sym (ap (take (suc k)) (drop-cons m p 0 (omega arith))))
-
-pub run-words : (m : List ℕ) (l : Bool) (a k : ℕ) → isRun l (length m) a k ≡ true → run m (words l k a) ≡ given k (take k (drop (a / 2) m))
-run-words m l a k h =
-    words-there 0 m l k (a / 2) a (run-ends (length m) a k l h) (λ j. run-fetch l m a k j h)
-    ∙ ap (λ (i : ℕ). given i (take k (drop (a / 2) m))) (omega arith)

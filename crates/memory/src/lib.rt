@@ -1,7 +1,7 @@
 // Display memory: pointers, addresses, and the words that a host lends.
 ghost use mathlib.Core.Path.{_≡_};
-ghost use Prim.Native.Nat.{_+_, _≤_};
-ghost use lib.ListN.{length, take, drop};
+ghost use Prim.Native.Nat.{_+_};
+ghost use lib.ListN.{length};
 ghost use lib.Dec.{leb};
 ghost use Rattle.memory.specs.Word.{bit, high, low};
 ghost use Rattle.memory.specs.Reading.{fetch, run};
@@ -118,31 +118,6 @@ pub fn word_at(mem: &[u16], a: u32) -> Fetch
 
 // As many words as `into` holds, from the address `a` on.
 pub fn read_words(mem: &[u16], linear: bool, a: u32, into: &mut [u16]) -> WordsRead
-    ensures { λ r. ⌜ wordsRead r (now (into .exit)) ≡ run (now (mem .entry)) (words linear (length (now (into .entry))) a) ⌝ }
-{
-    if is_run(mem, linear, a, into.len()) {
-        let at = (a / 2) as usize;
-        copy_words(mem, at, into);
-        WordsRead::Whole
-    } else {
-        read_each_word(mem, linear, a, into)
-    }
-}
-
-// The words of memory from number `at` on, copied into `into`.
-fn copy_words(mem: &[u16], at: usize, into: &mut [u16])
-    requires { ⌜ at + length (now into) ≤ length (now mem) ⌝ }
-    ensures { λ _. ⌜ now (into .exit) ≡ take (length (now (into .entry))) (drop at (now (mem .entry))) ⌝ }
-{
-    let mut i = 0;
-    while i < into.len() {
-        into[i] = mem[at + i];
-        i += 1;
-    }
-}
-
-// As `read_words`, one word after the other.
-fn read_each_word(mem: &[u16], linear: bool, a: u32, into: &mut [u16]) -> WordsRead
     ensures { λ r. ⌜ wordsRead r (now (into .exit)) ≡ run (now (mem .entry)) (words linear (length (now (into .entry))) a) ⌝ }
 {
     let mut at = a;

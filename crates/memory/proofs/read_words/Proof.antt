@@ -1,32 +1,71 @@
-use mathlib.Core.Path.{ap₂, sym, _∙_}
-use lib.ListN.{length}
-use Rattle.memory.specs.Reading.{given}
-use Rattle.memory.proofs.RunLaws.{run-ends, run-words}
+use mathlib.Core.Path.{_≡_, refl, sym, _∙_}
+use mathlib.Core.List.{_++_, append-assoc, append-nil}
+use Prim.Native.Nat.{_≤_, _<_, _-_}
+use native.Mathlib.Omega.{arith}
+use native.Mathlib.Nat.{sub-zero, sub-add-eq}
+use lib.ListN.{length, take, length-set}
+use lib.Seq.{take-length}
+use Rattle.memory.specs.Reading.{done, _>>=_, run, runFrom}
+use Rattle.memory.specs.Address.{words}
+use Rattle.memory.proofs.Laws.{bind-done, run-done}
+use Rattle.memory.proofs.WordLaws.{words-none, words-word, words-absent}
+use Rattle.memory.proofs.ListLaws.{take-next}
 use borrow.Author.Needs.{needs}
 use Rattle.memory.proofs.read_words.Statement.{statement}
 use Rattle.memory.proofs.read_words.Tie as tie
 
-copy-words-requires : tie.Need-copy-words-requires
-copy-words-requires c κs =
-    let a = c .before .before .before .before .before .args in
-    run-ends (length (a .mem .now)) (a .a) (length (a .into .now)) (a .linear) (sym (c .before .before .is-run .ensures) ∙ c .before .if1 .taken)
+abbrev Inv-loop : tie.InvT-loop
+Inv-loop mem linear a into₀ at₀ i₀ into at i =
+    (i ≤ length into₀) × (length into ≡ length into₀)
+    × (run mem (words linear (length into₀) a) ≡ runFrom i mem (words linear (length into₀ - i) at >>= λ ws. done (take i into ++ ws)))
 
-returns : tie.Need-returns
+abbrev μ-loop : tie.MeasureT-loop
+μ-loop mem linear a into₀ at₀ i₀ into at i = length into₀ - i
+
+loop-holds : tie.Need-loop-holds Inv-loop μ-loop
+loop-holds c = (omega arith, refl, rw sub-zero (bind-done _ _ _))
+
+returns : tie.Need-returns Inv-loop μ-loop
 returns c =
-    let a = c .before .before .before .before .before .before .before .before .args in
-    let copied = c .before .before .copy-words .ensures in
-    let there = run-words (a .mem .now) (a .linear) (a .a) (length (a .into .now)) (sym (c .before .before .before .before .before .is-run .ensures) ∙ c .before .before .before .before .if1 .taken) in
-    ap₂ given (search needs) copied ∙ sym there
+    let d = c .before .before .before .before in
+    sym (d .loop .inv .2
+    ∙ words-absent _ _ _ _ _ _ (omega arith) (sym (c .before .before .word-at .ensures) ∙ c .enum-told .given .1))
+
+loop-again : tie.Need-loop-again Inv-loop μ-loop
+loop-again c =
+    let r = c .before .before .before .before in
+    let l = r .before .before .loop in
+    let k : l .i < length (l .into) = omega arith in (
+      omega arith,
+      simp length-set (l .inv .1),
+      l .inv .2
+          ∙ words-word _ _ _ _ _ _ _ (omega arith) (sym (r .word-at .ensures) ∙ c .before .before .w .given .1)
+          ∙ rw (c .next-word .ensures, take-next (l .into) (l .i) _ k, sub-add-eq) (simp append-assoc),
+    )
+
+returns-2 : tie.Need-returns-2 Inv-loop μ-loop
+returns-2 c =
+    let l = c .before .loop in
+    let n : l .i ≡ length (l .into) = omega arith in
+    sym (l .inv .2 ∙ words-none _ _ _ _ _ _ (omega arith) ∙ run-done _ _ _ ∙ rw (n, take-length, append-nil))
 
 pub read-words-spec : {M : Type 1} → statement M
 read-words-spec =
     tie.close
     (tie.spec
+    Inv-loop
+    μ-loop
+    loop-holds
     (λ c κs. search needs)
     (λ c. search needs)
-    copy-words-requires
-    (λ c κs. search needs)
+    (λ c. search needs)
     (λ c. search needs)
     returns
     (λ c. search needs)
-    (λ c. search needs))
+    (λ c. search needs)
+    (λ c κs. search needs)
+    (λ c. search needs)
+    (λ c. search needs)
+    loop-again
+    (λ c. search needs)
+    returns-2)
