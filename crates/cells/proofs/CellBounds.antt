@@ -8,7 +8,7 @@ use native.Mathlib.Nat.{le-refl}
 use lib.ListN.{length, length-append, length-replicate}
 use lib.Dec.{ltb, lit<}
 use borrow.Author.Tests.{ltb-true, ltb-false}
-use Rattle.memory.specs.Word.{if_then_else_, high, low}
+use Rattle.memory.specs.Word.{high, low}
 use Rattle.memory.specs.Reading.{_>>=_, each}
 use Rattle.memory.specs.Address.{nextWord}
 use Rattle.memory.proofs.ReadBounds.{Reads, dones, refuses, asks, weaken, bind, if-cases, if-reads, both}

@@ -1,6 +1,6 @@
 -- The laws by which a proof follows the drawing of a segment: one for each way through a definition.
-use mathlib.Core.Path.{_≡_, refl, ap, ap₂, sym, _∙_}
-use mathlib.Core.List.{List, [], _∷_, _++_, append-assoc, append-nil}
+use mathlib.Core.Path.{_≡_, ap, ap₂, sym, _∙_}
+use mathlib.Core.List.{List, _∷_, _++_, append-assoc, append-nil}
 use mathlib.Core.Bool.{Bool, true, false, _&&_, _||_, not}
 use Prim.Native.Nat.{ℕ, zero, suc, _+_, _-_, _<_, _≤_, zero-le, min}
 use native.Mathlib.Omega.{arith}
@@ -11,7 +11,6 @@ use lib.Seq.{drop-cons}
 use lib.Dec.{ltb}
 use borrow.Author.Tests.{ltb-true, lt-ltb, le-ltb}
 use Rattle.memory.specs.declared.Fetch.the-variants.{Word, Absent}
-use Rattle.memory.specs.Word.{high, low}
 use Rattle.memory.specs.Reading.{_>>=_, each, fetch, given, refused, runFrom}
 use Rattle.memory.specs.Address.{nextWord}
 use Rattle.memory.proofs.Laws.{bind-given, bind-refused, run-done, run-refuse, ask-word, ask-absent}

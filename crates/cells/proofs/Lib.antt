@@ -1,3 +1,4 @@
 pub mod CellBounds
 pub mod CellLaws
 pub mod SideLaws
+pub mod RunLaws

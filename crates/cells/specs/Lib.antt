@@ -1,3 +1,4 @@
 pub mod Attribute
 pub mod Cells
 pub mod Drawn
+pub mod Runs

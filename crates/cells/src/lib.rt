@@ -18,8 +18,11 @@ ghost use Rattle.cells.specs.Drawn.{soFar, drawn, Reached, Drawable};
 
 mod attribute; // attribute words, and the bits of a cell
 mod codes; // the codes of a segment
+mod each_word; // .. word by word, where a word may be missing or an address wraps
 mod fill; // fill runs
+mod listed; // .. of a segment with a list
 mod pens; // where drawing stands
+mod plain; // .. of a segment without one
 
 // Where a cell comes from.
 pub enum Source {

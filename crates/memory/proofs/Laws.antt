@@ -1,9 +1,10 @@
 -- The laws by which a proof follows a reading: what it comes to, one step after the other.
 use mathlib.Core.Path.{_≡_, refl, ap, sym, _∙_}
-use mathlib.Core.List.{List, [], _∷_}
+use mathlib.Core.List.{List, [], _∷_, _++_}
 use mathlib.Core.Bool.{Bool, true, false}
 use Prim.Native.Nat.{ℕ, _+_, _/_}
 use native.Mathlib.Nat.{add-zero, add-assoc}
+use native.Mathlib.Omega.{arith}
 use lib.ListN.{length, getD}
 use lib.Dec.{ltb}
 use Rattle.memory.specs.declared.Fetch.the-variants.{Word, Absent}
@@ -130,3 +131,26 @@ module _ {A B : Type 0} (n : ℕ) (m : List ℕ) (p : Reading A) (k : A → Read
 
   pub step-refused : {i at : ℕ} → run m p ≡ refused i at → runFrom n m (p >>= k) ≡ refused i at
   step-refused e = bind-refused n m p k (run-after n m p ∙ ap (after n) e)
+
+-- the same step, and what comes after it with k more words read before
+pub step-same : {A B : Type 0} (n k : ℕ) (m : List ℕ) (p : Reading A) (f g : A → Reading B)
+    → ((i : ℕ) (a : A) → runFrom i m (f a) ≡ runFrom (i + k) m (g a)) → runFrom n m (p >>= f) ≡ runFrom (n + k) m (p >>= g)
+unfolding runFrom _>>=_
+step-same n k m (done a) f g h = h n a
+step-same n k m (refuse i at) f g h = refl
+step-same {A} {B} n k m (ask a q) f g h =
+    let w = getD m (a / 2) 0 in
+    let moved : n + 1 + k ≡ n + k + 1 = omega arith in
+    ap (λ (o : Outcome B). if ltb (a / 2) (length m) then o else refused 7 a)
+    (step-same (n + 1) k m (q w) f g h ∙ ap (λ (i : ℕ). runFrom i m (q w >>= g)) moved)
+
+-- readings for a list: those for its front, then those for the rest
+pub each-append : {A B : Type 0} (n : ℕ) (m : List ℕ) (f : A → B → Reading B) (xs ys : List A) (b : B)
+    → runFrom n m (each f (xs ++ ys) b) ≡ runFrom n m (each f xs b >>= each f ys)
+unfolding each _>>=_
+each-append n m f [] ys b = refl
+each-append n m f (x ∷ xs) ys b =
+    step-same n 0 m (f x b) (each f (xs ++ ys)) (λ c. each f xs c >>= each f ys)
+    (λ i c. each-append i m f xs ys c ∙ ap (λ (j : ℕ). runFrom j m (each f xs c >>= each f ys)) (sym (add-zero i)))
+    ∙ ap (λ (j : ℕ). runFrom j m (f x b >>= λ c. each f xs c >>= each f ys)) (add-zero n)
+    ∙ sym (bind-bind n m (f x b) (each f xs) (each f ys))

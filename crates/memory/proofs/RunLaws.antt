@@ -4,6 +4,7 @@ use mathlib.Core.List.{List}
 use mathlib.Core.Bool.{Bool, true, false}
 use Prim.Native.Nat.{ℕ, zero, suc, _+_, _-_, _*_, _/_, _%_, _≤_, _<_}
 use native.Mathlib.Omega.{arith}
+use native.Mathlib.Numerals.{add-one}
 use lib.ListN.{length, getD}
 use lib.Dec.{leb}
 use borrow.Author.Tests.{leb-true, leb-false, le-leb, lt-leb, lt-ltb}
@@ -31,10 +32,13 @@ unfolding ahead nextWord
 ahead-paged zero a = omega arith
 ahead-paged (suc k) a = ahead-paged k (a / 65536 * 65536 + (a + 2) % 65536) ∙ omega arith
 
-pub ahead-next : (l : Bool) (k a : ℕ) → nextWord l (ahead l k a) ≡ ahead l (suc k) a
+ahead-next : (l : Bool) (k a : ℕ) → nextWord l (ahead l k a) ≡ ahead l (suc k) a
 unfolding ahead
 ahead-next l zero a = refl
 ahead-next l (suc k) a = ahead-next l k (nextWord l a)
+
+pub ahead-more : (l : Bool) (k a : ℕ) → ahead l (k + 1) a ≡ nextWord l (ahead l k a)
+ahead-more l k a = ap (λ (i : ℕ). ahead l i a) (add-one k) ∙ sym (ahead-next l k a)
 
 -- what a run is: it ends in memory, and no address before its end wraps
 module _ (len a k : ℕ) where

@@ -1,6 +1,5 @@
-use mathlib.Core.Path.{refl, sym}
+use mathlib.Core.Path.{sym}
 use native.Mathlib.Omega.{arith}
-use native.Mathlib.Nat.{add-zero}
 use Rattle.memory.proofs.Laws.{run-done}
 use borrow.Author.Needs.{needs}
 use Rattle.cells.proofs.draw_chosen.Statement.{statement}

@@ -4,8 +4,8 @@ use borrow.Author.Tests.{ltb-true}
 use Rattle.memory.proofs.ReadBounds.{both}
 use Rattle.cells.proofs.CellLaws.{character-put, character-out}
 use borrow.Author.Needs.{needs}
-use Rattle.cells.proofs.codes.put_character.Statement.{statement}
-use Rattle.cells.proofs.codes.put_character.Tie as tie
+use Rattle.cells.proofs.each_word.put_character.Statement.{statement}
+use Rattle.cells.proofs.each_word.put_character.Tie as tie
 
 slice-write-cells : tie.Need-slice-write-cells
 slice-write-cells c =

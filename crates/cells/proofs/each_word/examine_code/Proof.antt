@@ -6,8 +6,8 @@ use Rattle.cells.specs.Cells.{taking}
 use Rattle.cells.specs.Drawn.{soFar}
 use Rattle.cells.proofs.CellLaws.{examine-word, examine-absent, examine-latch}
 use borrow.Author.Needs.{needs}
-use Rattle.cells.proofs.codes.examine_code.Statement.{statement}
-use Rattle.cells.proofs.codes.examine_code.Tie as tie
+use Rattle.cells.proofs.each_word.examine_code.Statement.{statement}
+use Rattle.cells.proofs.each_word.examine_code.Tie as tie
 
 put-character-requires : tie.Need-put-character-requires
 unfolding taking

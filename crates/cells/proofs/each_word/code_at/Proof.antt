@@ -1,8 +1,8 @@
-use mathlib.Core.Path.{_≡_, _∙_}
+use mathlib.Core.Path.{_≡_}
 use native.Mathlib.Omega.{arith}
 use borrow.Author.Needs.{needs}
-use Rattle.cells.proofs.codes.code_at.Statement.{statement}
-use Rattle.cells.proofs.codes.code_at.Tie as tie
+use Rattle.cells.proofs.each_word.code_at.Statement.{statement}
+use Rattle.cells.proofs.each_word.code_at.Tie as tie
 
 returns : tie.Need-returns
 returns c = rw (c .before .if1 .taken) (c .high-byte .ensures)

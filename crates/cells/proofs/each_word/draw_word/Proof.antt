@@ -10,8 +10,8 @@ use Rattle.cells.specs.Cells.{examine, wordCodes}
 use Rattle.cells.specs.Drawn.{soFar}
 use Rattle.cells.proofs.CellLaws.{bytes-none, bytes-refused, bytes-more}
 use borrow.Author.Needs.{needs}
-use Rattle.cells.proofs.codes.draw_word.Statement.{statement}
-use Rattle.cells.proofs.codes.draw_word.Tie as tie
+use Rattle.cells.proofs.each_word.draw_word.Statement.{statement}
+use Rattle.cells.proofs.each_word.draw_word.Tie as tie
 
 abbrev bytes : ℕ → List ℕ
 bytes w = high w ∷ low w ∷ []
