@@ -6,7 +6,7 @@ ghost use Prim.Native.Nat.{_≤_};
 ghost use Rattle.cells.specs.Attribute.{invokes, ignores, sourceNumber, cell};
 
 // Does the code invoke an attribute?
-pub(crate) fn invokes(flag: u16, code: u8) -> bool
+pub fn invokes(flag: u16, code: u8) -> bool
     ensures { λ r. ⌜ r ≡ invokes flag code ⌝ }
 {
     let mask = memory::high_byte(flag);

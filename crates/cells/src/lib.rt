@@ -16,7 +16,7 @@ ghost use Rattle.plan.specs.Plan.{overlayOf};
 ghost use Rattle.cells.specs.Cells.{codeCount, segment, segmentsTo, rowCells, blank};
 ghost use Rattle.cells.specs.Drawn.{soFar, drawn, Reached, Drawable};
 
-mod attribute; // attribute words, and the bits of a cell
+pub mod attribute; // attribute words, and the bits of a cell
 mod codes; // the codes of a segment
 mod each_word; // .. word by word, where a word may be missing or an address wraps
 mod fill; // fill runs
@@ -103,6 +103,13 @@ pub fn draw_cells(
             cells,
         ),
     }
+}
+
+// How many codes of a segment are examined.
+pub fn code_count(g: Segment) -> u32
+    ensures { λ r. ⌜ (r ≡ codeCount g) × (r ≤ 255) ⌝ }
+{
+    if g.codes == 0 { 0 } else { g.length as u32 }
 }
 
 // The background before a window, the window, and the background after it.
@@ -328,11 +335,4 @@ fn draw_segment(
             words: read,
         } => fill::fill_to(mem, settings, fill, end, after, read, cells),
     }
-}
-
-// How many codes of a segment are examined.
-fn code_count(g: Segment) -> u32
-    ensures { λ r. ⌜ (r ≡ codeCount g) × (r ≤ 255) ⌝ }
-{
-    if g.codes == 0 { 0 } else { g.length as u32 }
 }

@@ -1,15 +1,24 @@
--- A row's outcomes from its plan: refused as the plan is, or gone on from it.
-use mathlib.Core.Path.{_≡_, sym}
-use mathlib.Core.Bool.{Bool}
+-- A row's outcomes from its plan: refused as the plan is, or gone on from it; and its effect, where its latch was followed.
+use mathlib.Core.Path.{_≡_, refl, sym, _∙_}
+use mathlib.Core.Bool.{Bool, true, false}
 use mathlib.Core.List.{List}
 use Prim.Native.Nat.{ℕ}
-use Rattle.memory.specs.Reading.{given, refused, runFrom, run}
-use Rattle.memory.proofs.Laws.{bind-given, bind-refused}
+use Rattle.memory.specs.Reading.{Reading, done, _>>=_, Outcome, given, refused, runFrom, run}
+use Rattle.memory.proofs.Laws.{bind-given, bind-refused, run-done}
+use Rattle.memory.proofs.ReadBounds.{if-cases}
 use Rattle.settings.specs.declared.Settings.{Settings}
 use Rattle.plan.specs.declared.Fields.{Fields}
 use Rattle.plan.specs.Plan.{Plan, plan}
-use Rattle.row.specs.Row.{fromPlan, row}
-use Rattle.effect.specs.Effect.{latchWith, outcomeFor}
+use Rattle.cells.specs.Cells.{Drawing, blank, rowCells}
+use Rattle.row.specs.Row.{Row, drawnBy, fromPlan, row}
+use Rattle.follow.specs.declared.Followed.{Followed}
+use Rattle.follow.specs.declared.Followed.the-variants.{Kept, Latched, Unclear}
+use Rattle.follow.specs.Follow.{ending, AsDrawn}
+use Rattle.effect.specs.declared.Part.{Part}
+use Rattle.effect.specs.declared.Part.the-variants.{Keep, Set}
+use Rattle.effect.specs.declared.NextFields.{NextFields}
+use Rattle.effect.specs.declared.NextFields.the-variants.{Reached}
+use Rattle.effect.specs.Effect.{partOf, nextOf, latchWith, outcomeFor, effectCall, sameParts}
 
 module _ (σ : Settings) (m : List ℕ) (f : Fields) where
   pub plan-refused : {n a : ℕ} → refused n a ≡ run m (plan σ f) → (ignore : Bool) → refused n a ≡ outcomeFor σ m f ignore
@@ -20,3 +29,37 @@ module _ (σ : Settings) (m : List ℕ) (f : Fields) where
       → runFrom n m (fromPlan σ (f .fill) (latchWith ignore) p) ≡ outcomeFor σ m f ignore
   unfolding outcomeFor row
   plan-given e ignore = sym (bind-given 0 m (plan σ f) _ (sym e))
+
+  module _ {n : ℕ} {p : Plan} (e : given n p ≡ run m (plan σ f)) where
+    -- an accepted row that has a part and the plan's next fields; the part as followed
+    abbrev Accepts : Part → Outcome Row → Type 0
+    Accepts part o = (partOf f o ≡ part) × ((x : NextFields) → nextOf o x ≡ Reached (p .next))
+
+    abbrev Ends : Followed → Outcome Row → Type 0
+    Ends Kept o = Accepts Keep o
+    Ends (Latched w) o = Accepts (Set w) o
+    Ends Unclear o = Unit {0}
+
+    row-ends : (r : Followed) (ignore : Bool) → r ≡ ending (runFrom n m (rowCells σ (f .fill) (p .overlay) (p .segments) (blank (latchWith ignore))))
+        → Ends r (outcomeFor σ m f ignore)
+    row-ends r ignore h = rw (← plan-given e ignore, h) (out (runFrom n m drawn) refl)
+      where
+        drawn : Reading Drawing
+        drawn = rowCells σ (f .fill) (p .overlay) (p .segments) (blank (latchWith ignore))
+
+        out : (o : Outcome Drawing) → runFrom n m drawn ≡ o → Ends (ending o) (runFrom n m (drawn >>= λ d. done (drawnBy p d)))
+        out (given i d) e =
+            rw (bind-given n m drawn (λ d. done (drawnBy p d)) e ∙ run-done i m (drawnBy p d))
+            (if-cases (λ (r : Followed). Ends r (given i (drawnBy p d))) (d .pen .latched) (λ t. (rw t, λ x. refl)) (λ t. (rw t, λ x. refl)))
+        out (refused i a) e = tt
+
+    -- the effect of a row whose latch was followed
+    same : (part : Part) → ((ignore : Bool) → Accepts part (outcomeFor σ m f ignore)) → sameParts part (p .next) ≡ effectCall σ m f
+    unfolding effectCall
+    same part h = rw (h false .0, h true .0, h false .1)
+
+    pub kept-effect : AsDrawn σ m (f .fill) (p .overlay) (p .segments) Kept → sameParts Keep (p .next) ≡ effectCall σ m f
+    kept-effect h = same Keep (λ ignore. row-ends Kept ignore (h n (latchWith ignore)))
+
+    pub latched-effect : (w : ℕ) → AsDrawn σ m (f .fill) (p .overlay) (p .segments) (Latched w) → sameParts (Set w) (p .next) ≡ effectCall σ m f
+    latched-effect w h = same (Set w) (λ ignore. row-ends (Latched w) ignore (h n (latchWith ignore)))

@@ -43,3 +43,7 @@ effectOf f clear set = record {
 -- "A row's effect doesn't depend on the state's latch; it takes a row's checks but 1"
 unfoldable pub effectCall : Settings → List ℕ → Fields → EffectAnswer
 effectCall σ m f = effectOf f (outcomeFor σ m f false) (outcomeFor σ m f true)
+
+-- the answer of a row that is accepted and has one part for either latch
+abbrev pub sameParts : Part → Fields → EffectAnswer
+sameParts part next = record { effect = record { clear = part; set = part }; next = Reached next }

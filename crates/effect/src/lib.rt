@@ -1,15 +1,19 @@
 // Effects of rows on the latch.
+use follow::Followed;
 use memory::Refusal;
 use plan::Fields;
 use plan::PlanAnswer;
+use plan::PlanHead;
 use row::RowDrawn;
 use settings::Settings;
 ghost use mathlib.Core.Path.{_≡_};
 ghost use mathlib.Core.List.{List};
 ghost use Prim.Native.Nat.{ℕ};
+ghost use Rattle.memory.specs.Reading.{given, run};
+ghost use Rattle.plan.specs.Plan.{planOf, plan};
 ghost use Rattle.row.specs.Row.{rowDrawn};
 ghost use Rattle.effect.specs.Join.{partFor, setThen, joinPart, join, apply};
-ghost use Rattle.effect.specs.Effect.{partOf, nextOf, effectOf, effectCall};
+ghost use Rattle.effect.specs.Effect.{partOf, nextOf, effectOf, effectCall, sameParts};
 
 // What a row does to the latch: keep it, set it to a word, or refuse.
 pub enum Part {
@@ -72,8 +76,8 @@ impl Effect {
     }
 }
 
-// The effect of a row, with the next state's fields: its plan once, and its cells from a latch with ignore clear and from one
-// with it set.
+// The effect of a row, with the next state's fields: its plan once, and then what becomes of the latch, followed without cells.
+// Where that is unclear, the row is drawn.
 pub fn row_effect(settings: Settings, mem: &[u16], fields: Fields) -> EffectAnswer
     ensures { λ r. ⌜ r ≡ effectCall settings (now (mem .entry)) fields ⌝ }
 {
@@ -86,12 +90,48 @@ pub fn row_effect(settings: Settings, mem: &[u16], fields: Fields) -> EffectAnsw
         }
         PlanAnswer::Planned(p) => {
             let fill = fields.fill;
-            let mut cells = [0u32; 132];
-            let clear = row::draw_plan(settings, mem, fill, p, &back, &window, 0, &mut cells);
-            let set = row::draw_plan(settings, mem, fill, p, &back, &window, 0x2000, &mut cells);
-            effect_of(fields, clear, set)
+            let overlay = p.overlay;
+            match follow::follow_row(mem, settings, fill, overlay, &back, p.count, &window) {
+                Followed::Kept => same_parts(Part::Keep, p),
+                Followed::Latched(w) => same_parts(Part::Set(w), p),
+                Followed::Unclear => drawn_effect(settings, mem, fields, p, &back, &window),
+            }
         }
     }
+}
+
+// The answer for a planned row that has the same part with ignore clear and with it set.
+fn same_parts(part: Part, p: PlanHead) -> EffectAnswer
+    ensures { λ r. ⌜ r ≡ sameParts part (p .next) ⌝ }
+{
+    let effect = Effect {
+        clear: part,
+        set: part,
+    };
+    let next = p.next;
+    EffectAnswer {
+        effect,
+        next: NextFields::Reached(next),
+    }
+}
+
+// The effect of a planned row: its cells from a latch with ignore clear and from one with it set.
+fn drawn_effect(
+    settings: Settings,
+    mem: &[u16],
+    fields: Fields,
+    p: PlanHead,
+    back: &[u16; 75],
+    window: &[u16; 75],
+) -> EffectAnswer
+    requires { ⌜ given (p .words) (planOf (settings .linear) p (now back) (now window)) ≡ run (now mem) (plan settings fields) ⌝ }
+    ensures { λ r. ⌜ r ≡ effectCall settings (now (mem .entry)) fields ⌝ }
+{
+    let fill = fields.fill;
+    let mut cells = [0u32; 132];
+    let clear = row::draw_plan(settings, mem, fill, p, back, window, 0, &mut cells);
+    let set = row::draw_plan(settings, mem, fill, p, back, window, 0x2000, &mut cells);
+    effect_of(fields, clear, set)
 }
 
 // The answer of an effect call, from the row with ignore clear and the row with it set.

@@ -1,0 +1,37 @@
+use mathlib.Core.Path.{_∙_}
+use Rattle.plan.proofs.LayoutLaws.{whole-all}
+use Rattle.follow.specs.Follow.{overRow, overParts}
+use Rattle.follow.proofs.LatchLaws.{row-ends}
+use borrow.Author.Needs.{needs}
+use Rattle.follow.proofs.follow_row.Statement.{statement}
+use Rattle.follow.proofs.follow_row.Tie as tie
+
+returns : tie.Need-returns
+unfolding overRow
+returns c = row-ends _ _ _ _ _ (rw (c .if1 .taken))
+
+returns-2 : tie.Need-returns-2
+unfolding overRow overParts
+returns-2 c =
+    row-ends _ _ _ _ _ (rw (c .before .before .before .if1 .left, c .before .enum-told .given .1) (rw whole-all at (c .follow-side .ensures)))
+
+returns-3 : tie.Need-returns-3
+unfolding overRow overParts
+returns-3 c =
+    row-ends _ _ _ _ _
+    (rw (c .before .before .before .before .before .before .if1 .left, c .before .before .before .before .overlay .given .1)
+    (c .follow-side4 .ensures ∙ rw (c .before .follow-side3 .ensures, c .before .before .follow-side2 .ensures, whole-all)))
+
+pub follow-row-spec : {M : Type 1} → statement M
+follow-row-spec =
+    tie.close
+    (tie.spec
+    returns
+    (λ c. search needs)
+    (λ c κs. search needs)
+    (λ c. search needs)
+    (λ c κs. search needs)
+    (λ c κs. search needs)
+    (λ c κs. search needs)
+    returns-2
+    returns-3)
