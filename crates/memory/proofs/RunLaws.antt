@@ -32,7 +32,7 @@ unfolding ahead nextWord
 ahead-paged zero a = omega arith
 ahead-paged (suc k) a = ahead-paged k (a / 65536 * 65536 + (a + 2) % 65536) ∙ omega arith
 
-ahead-next : (l : Bool) (k a : ℕ) → nextWord l (ahead l k a) ≡ ahead l (suc k) a
+pub ahead-next : (l : Bool) (k a : ℕ) → nextWord l (ahead l k a) ≡ ahead l (suc k) a
 unfolding ahead
 ahead-next l zero a = refl
 ahead-next l (suc k) a = ahead-next l k (nextWord l a)
