@@ -7,12 +7,20 @@ use Rattle.memory.specs.Reading.{Outcome, given, refused, run}
 use Rattle.settings.specs.declared.Settings.{Settings}
 use Rattle.plan.specs.declared.Fields.{Fields}
 use Rattle.plan.specs.State.{stateOf, refusal}
+use Rattle.cells.specs.Drawn.{soFar}
 use Rattle.row.specs.Row.{Row, row}
+use Rattle.effect.specs.declared.RowDrawn.{RowDrawn}
+use Rattle.effect.specs.declared.RowDrawn.the-variants as Drawn
 use Rattle.effect.specs.declared.Part.{Part}
 use Rattle.effect.specs.declared.Part.the-variants.{Keep, Set, Refuse}
 use Rattle.effect.specs.declared.NextFields.{NextFields}
 use Rattle.effect.specs.declared.NextFields.the-variants.{Reached, Unreached}
 use Rattle.effect.specs.declared.EffectAnswer.{EffectAnswer}
+
+-- the answer of `draw_plan`, with the cells that it leaves, as an outcome
+abbrev pub rowDrawn : RowDrawn → List ℕ → Outcome Row
+rowDrawn (Drawn.Went e n) cs = given n (record { lines = e .lines; format = e .format; next = e .next; drawing = soFar (e .pen) cs })
+rowDrawn (Drawn.Refused n a) cs = refused n a
 
 -- "A part is the refusal that a row gives from such a latch; without one, the last word that became the latch; without one, keep."
 abbrev pub partOf : Fields → Outcome Row → Part

@@ -1,19 +1,25 @@
 // Effects of rows on the latch.
+use blocks::FillMode;
+use blocks::RowFormat;
+use cells::Drawn;
+use cells::Pen;
 use follow::Followed;
 use memory::Refusal;
 use plan::Fields;
 use plan::PlanAnswer;
 use plan::PlanHead;
-use row::RowDrawn;
 use settings::Settings;
 ghost use mathlib.Core.Path.{_≡_};
 ghost use mathlib.Core.List.{List};
-ghost use Prim.Native.Nat.{ℕ};
-ghost use Rattle.memory.specs.Reading.{given, run};
-ghost use Rattle.plan.specs.Plan.{planOf, plan};
-ghost use Rattle.row.specs.Row.{rowDrawn};
+ghost use Prim.Native.Nat.{ℕ, _≤_};
+ghost use lib.ListN.{length};
+ghost use Rattle.memory.specs.Reading.{given, runFrom, run};
+ghost use Rattle.blocks.specs.RowBlock.{segmentsOf};
+ghost use Rattle.plan.specs.Plan.{overlayOf, planOf, plan};
+ghost use Rattle.cells.specs.Drawn.{Drawable};
+ghost use Rattle.row.specs.Row.{fromPlan};
 ghost use Rattle.effect.specs.Join.{partFor, setThen, joinPart, join, apply};
-ghost use Rattle.effect.specs.Effect.{partOf, nextOf, effectOf, effectCall, sameParts};
+ghost use Rattle.effect.specs.Effect.{rowDrawn, partOf, nextOf, effectOf, effectCall, sameParts};
 
 // What a row does to the latch: keep it, set it to a word, or refuse.
 pub enum Part {
@@ -44,6 +50,19 @@ pub enum NextFields {
 pub struct EffectAnswer {
     pub effect: Effect,
     pub next: NextFields,
+}
+
+// Where a row's drawing ended: its lines and format, the next state's fields, and the pen.
+struct RowEnd {
+    lines: u16,
+    format: RowFormat,
+    next: Fields,
+    pen: Pen,
+}
+
+enum RowDrawn {
+    Went { end: RowEnd, words: u32 },
+    Refused { number: u8, address: u32 },
 }
 
 impl Effect {
@@ -129,9 +148,52 @@ fn drawn_effect(
 {
     let fill = fields.fill;
     let mut cells = [0u32; 132];
-    let clear = row::draw_plan(settings, mem, fill, p, back, window, 0, &mut cells);
-    let set = row::draw_plan(settings, mem, fill, p, back, window, 0x2000, &mut cells);
+    let clear = draw_plan(settings, mem, fill, p, back, window, 0, &mut cells);
+    let set = draw_plan(settings, mem, fill, p, back, window, 0x2000, &mut cells);
     effect_of(fields, clear, set)
+}
+
+// The cells of a planned row.
+fn draw_plan(
+    settings: Settings,
+    mem: &[u16],
+    fill: FillMode,
+    p: PlanHead,
+    back: &[u16; 75],
+    window: &[u16; 75],
+    latch: u16,
+    cells: &mut [u32],
+) -> RowDrawn
+    requires { ⌜ Drawable (settings .hidden) (overlayOf (settings .linear) (p .overlay) (now window)) (segmentsOf (settings .linear) (p .count) (now back)) ⌝ }
+    requires { ⌜ (p .words ≤ 1000) × (length (now cells) ≡ 132) ⌝ }
+    ensures { λ r. ⌜ rowDrawn r (now (cells .exit)) ≡ runFrom (p .words) (now (mem .entry)) (fromPlan settings fill latch (planOf (settings .linear) p (now (back .entry)) (now (window .entry)))) ⌝ }
+{
+    let overlay = p.overlay;
+    let next = p.next;
+    let format = p.format;
+    match cells::draw_cells(
+        mem,
+        settings,
+        fill,
+        overlay,
+        back,
+        p.count,
+        window,
+        latch,
+        p.words,
+        cells,
+    ) {
+        Drawn::Refused { number, address } => RowDrawn::Refused { number, address },
+        Drawn::Went { pen, words } => {
+            let end = RowEnd {
+                lines: p.lines,
+                format,
+                next,
+                pen,
+            };
+            RowDrawn::Went { end, words }
+        }
+    }
 }
 
 // The answer of an effect call, from the row with ignore clear and the row with it set.

@@ -9,14 +9,18 @@ use lib.Seq.{set-out, take-all}
 use lib.Dec.{ltb, lit≤}
 use borrow.Author.Tests.{ltb-false}
 use Rattle.memory.specs.Word.{if_then_else_}
-use Rattle.memory.specs.Reading.{given, run}
+use Rattle.memory.specs.Reading.{Reading, given, refused, runFrom, run}
+use Rattle.memory.proofs.Laws.{bind-given, bind-refused, run-done}
 use Rattle.memory.proofs.ReadBounds.{Words, reads-given}
 use Rattle.settings.specs.declared.Settings.{Settings}
 use Rattle.plan.specs.declared.Fields.{Fields}
+use Rattle.plan.specs.declared.State.{State}
 use Rattle.plan.specs.Layout.{Overlay, none, over}
 use Rattle.plan.specs.Plan.{Plan, plan}
 use Rattle.plan.proofs.PlanBounds as Bounds
+use Rattle.cells.specs.Cells.{Drawing, blank, rowCells}
 use Rattle.cells.specs.Drawn.{Inside, Drawable}
+use Rattle.row.specs.Row.{drawnBy, row}
 
 -- what a sound plan gives the cells
 inside : (hidden : Bool) (o : Overlay) → Bounds.Inside hidden o → Inside hidden o
@@ -31,6 +35,24 @@ pub plan-drawable : (σ : Settings) (m : List ℕ) → Words m → (f : Fields) 
     → Drawable (σ .hidden) (p .overlay) (p .segments) × (n ≤ 1000)
 plan-drawable σ m b f {p = p} e =
     let k = reads-given 0 m b (Bounds.plan-reads σ f) (sym e) in (drawable (σ .hidden) p (k .1), omega (arith, k .0))
+
+-- a row is refused as its plan is
+pub plan-refused : (σ : Settings) (m : List ℕ) (s : State) {i a : ℕ} → refused i a ≡ run m (plan σ (s .fields)) → refused i a ≡ run m (row σ s)
+unfolding row
+plan-refused σ m s h = sym (bind-refused 0 m (plan σ (s .fields)) _ (sym h))
+
+-- a row from its plan, once that is given
+module _ (σ : Settings) (m : List ℕ) (s : State) {n : ℕ} {p : Plan} (e : given n p ≡ run m (plan σ (s .fields))) where
+  abbrev cells : Reading Drawing
+  cells = rowCells σ (s .fields .fill) (p .overlay) (p .segments) (blank (s .latch))
+
+  pub planned-refused : {i a : ℕ} → refused i a ≡ runFrom n m cells → refused i a ≡ run m (row σ s)
+  unfolding row
+  planned-refused h = sym (bind-given 0 m (plan σ (s .fields)) _ (sym e) ∙ bind-refused n m cells _ (sym h))
+
+  pub planned-drawn : {i : ℕ} {d : Drawing} → given i d ≡ runFrom n m cells → given i (drawnBy p d) ≡ run m (row σ s)
+  unfolding row
+  planned-drawn h = sym (bind-given 0 m (plan σ (s .fields)) _ (sym e) ∙ bind-given n m cells _ (sym h) ∙ run-done _ _ _)
 
 -- a mark past the cells changes nothing
 pub mark-off : (b : Bool) (x v : ℕ) (cs : List ℕ) → b && ltb x 132 ≡ false → length cs ≡ 132 → cs ≡ (if b then set cs x v else cs)

@@ -12,14 +12,11 @@ use Rattle.blocks.specs.declared.FillMode.{FillMode}
 use Rattle.blocks.specs.declared.RowFormat.{RowFormat}
 use Rattle.plan.specs.declared.Fields.{Fields}
 use Rattle.plan.specs.declared.State.{State}
-use Rattle.row.specs.declared.RowDrawn.{RowDrawn}
-use Rattle.row.specs.declared.RowDrawn.the-variants as Drawn
 use Rattle.row.specs.declared.RowAnswer.{RowAnswer}
 use Rattle.row.specs.declared.RowAnswer.the-variants.{Accepted, Refused}
 use Rattle.plan.specs.State.{stateOf, refusal}
 use Rattle.plan.specs.Plan.{Plan, plan}
 use Rattle.cells.specs.Cells.{Drawing, blank, rowCells}
-use Rattle.cells.specs.Drawn.{soFar}
 
 -- what a row comes to: its lines and format, the next state's fields, and its drawing at the end
 pub record Row : Type 0 where
@@ -79,11 +76,6 @@ rowCall σ m s buffer =
     if eqb (length buffer) 132
     then answered σ (s .fields) buffer (run m (row σ s))
     else called (Refused (refusal (s .fields .row) 1 0)) buffer
-
--- the answer of `draw_row`, with the cells that it leaves, as an outcome
-abbrev pub rowDrawn : RowDrawn → List ℕ → Outcome Row
-rowDrawn (Drawn.Went e n) cs = given n (record { lines = e .lines; format = e .format; next = e .next; drawing = soFar (e .pen) cs })
-rowDrawn (Drawn.Refused n a) cs = refused n a
 
 -- "a row reads fewer than 12,000"
 abbrev pub FewWords : RowAnswer → Type 0

@@ -1,12 +1,10 @@
 // Starts and rows: a frame's first state, and one row after the other.
-use blocks::FillMode;
 use blocks::MainBlock;
 use blocks::MainRead;
 use blocks::RowFormat;
 use blocks::WindowInHand;
 use blocks::WindowRead;
 use cells::Drawn;
-use cells::Pen;
 use memory::Refusal;
 use plan::Fields;
 use plan::PlanAnswer;
@@ -14,15 +12,12 @@ use plan::PlanHead;
 use plan::State;
 use settings::Settings;
 ghost use mathlib.Core.Path.{_≡_};
-ghost use Prim.Native.Nat.{_≤_};
 ghost use lib.ListN.{length};
-ghost use Rattle.memory.specs.Reading.{runFrom, run};
-ghost use Rattle.blocks.specs.RowBlock.{segmentsOf};
+ghost use Rattle.memory.specs.Reading.{given, runFrom, run};
 ghost use Rattle.plan.specs.State.{stateOf, refusal};
-ghost use Rattle.plan.specs.Plan.{overlayOf, planOf};
-ghost use Rattle.cells.specs.Drawn.{Drawable};
+ghost use Rattle.plan.specs.Plan.{plan, planOf};
 ghost use Rattle.row.specs.Start.{firstFields, windowStart, started, startCall};
-ghost use Rattle.row.specs.Row.{fromPlan, row, withCursor, called, answerOf, rowCall, rowDrawn, FewWords};
+ghost use Rattle.row.specs.Row.{row, withCursor, called, answerOf, answered, rowCall, FewWords};
 
 // The answer of an accepted start: the words read, and the first state.
 pub struct Started {
@@ -49,19 +44,6 @@ pub enum RowAnswer {
     Refused(Refusal),
 }
 
-// Where a row's drawing ended: its lines and format, the next state's fields, and the pen.
-pub struct RowEnd {
-    pub lines: u16,
-    pub format: RowFormat,
-    pub next: Fields,
-    pub pen: Pen,
-}
-
-pub enum RowDrawn {
-    Went { end: RowEnd, words: u32 },
-    Refused { number: u8, address: u32 },
-}
-
 // The next row: its cells in `buffer` and its answer, or a refusal that leaves the buffer as it was.
 pub fn row(settings: Settings, mem: &[u16], state: State, buffer: &mut [u32]) -> RowAnswer
     ensures { λ r. ⌜ FewWords r ⌝ }
@@ -71,38 +53,13 @@ pub fn row(settings: Settings, mem: &[u16], state: State, buffer: &mut [u32]) ->
     if buffer.len() != 132 {
         return RowAnswer::Refused(refusal(fields.row, 1, 0));
     }
-    let mut cells = [0u32; 132];
-    match draw_row(settings, mem, fields, state.latch, &mut cells) {
-        RowDrawn::Refused { number, address } => {
-            RowAnswer::Refused(refusal(fields.row, number, address))
-        }
-        RowDrawn::Went { end, words } => {
-            mark_cursor(settings, fields, &mut cells);
-            copy_cells(&cells, buffer);
-            row_answer(fields.row, end, words)
-        }
-    }
-}
-
-// A row from a latch, its cells in order in `cells`: all of a row call but check 1, the cursor and the row buffer.
-fn draw_row(
-    settings: Settings,
-    mem: &[u16],
-    fields: Fields,
-    latch: u16,
-    cells: &mut [u32],
-) -> RowDrawn
-    requires { ⌜ length (now cells) ≡ 132 ⌝ }
-    ensures { λ r. ⌜ rowDrawn r (now (cells .exit)) ≡ run (now (mem .entry)) (row settings (stateOf latch fields)) ⌝ }
-{
     let mut back = [0u16; 75];
     let mut window = [0u16; 75];
     match plan::plan_row(mem, settings, fields, &mut back, &mut window) {
-        PlanAnswer::Refused { number, address } => RowDrawn::Refused { number, address },
-        PlanAnswer::Planned(p) => {
-            let fill = fields.fill;
-            draw_plan(settings, mem, fill, p, &back, &window, latch, cells)
+        PlanAnswer::Refused { number, address } => {
+            RowAnswer::Refused(refusal(fields.row, number, address))
         }
+        PlanAnswer::Planned(p) => draw_planned(settings, mem, state, p, &back, &window, buffer),
     }
 }
 
@@ -123,24 +80,24 @@ pub fn start(settings: Settings, mem: &[u16]) -> StartAnswer
     }
 }
 
-// The cells of a planned row.
-pub fn draw_plan(
+// A planned row: its cells in an array of its own, copied into the buffer once all is accepted.
+fn draw_planned(
     settings: Settings,
     mem: &[u16],
-    fill: FillMode,
+    state: State,
     p: PlanHead,
     back: &[u16; 75],
     window: &[u16; 75],
-    latch: u16,
-    cells: &mut [u32],
-) -> RowDrawn
-    requires { ⌜ Drawable (settings .hidden) (overlayOf (settings .linear) (p .overlay) (now window)) (segmentsOf (settings .linear) (p .count) (now back)) ⌝ }
-    requires { ⌜ (p .words ≤ 1000) × (length (now cells) ≡ 132) ⌝ }
-    ensures { λ r. ⌜ rowDrawn r (now (cells .exit)) ≡ runFrom (p .words) (now (mem .entry)) (fromPlan settings fill latch (planOf (settings .linear) p (now (back .entry)) (now (window .entry)))) ⌝ }
+    buffer: &mut [u32],
+) -> RowAnswer
+    requires { ⌜ (length (now buffer) ≡ 132) × (given (p .words) (planOf (settings .linear) p (now back) (now window)) ≡ run (now mem) (plan settings (state .fields))) ⌝ }
+    ensures { λ r. ⌜ FewWords r ⌝ }
+    ensures { λ r. ⌜ called r (now (buffer .exit)) ≡ answered settings (state .fields) (now (buffer .entry)) (run (now (mem .entry)) (row settings state)) ⌝ }
 {
+    let fields = state.fields;
+    let fill = fields.fill;
     let overlay = p.overlay;
-    let next = p.next;
-    let format = p.format;
+    let mut cells = [0u32; 132];
     match cells::draw_cells(
         mem,
         settings,
@@ -149,36 +106,31 @@ pub fn draw_plan(
         back,
         p.count,
         window,
-        latch,
+        state.latch,
         p.words,
-        cells,
+        &mut cells,
     ) {
-        Drawn::Refused { number, address } => RowDrawn::Refused { number, address },
+        Drawn::Refused { number, address } => {
+            RowAnswer::Refused(refusal(fields.row, number, address))
+        }
         Drawn::Went { pen, words } => {
-            let end = RowEnd {
-                lines: p.lines,
-                format,
-                next,
-                pen,
-            };
-            RowDrawn::Went { end, words }
+            mark_cursor(settings, fields, &mut cells);
+            copy_cells(&cells, buffer);
+            row_answer(fields.row, p, pen.latch, words)
         }
     }
 }
 
 // The answer of an accepted row.
-fn row_answer(number: u16, end: RowEnd, words: u32) -> RowAnswer
-    ensures { λ r. ⌜ r ≡ answerOf number (end .lines) (end .format) words (stateOf (end .pen .latch) (end .next)) ⌝ }
+fn row_answer(number: u16, p: PlanHead, latch: u16, words: u32) -> RowAnswer
+    ensures { λ r. ⌜ r ≡ answerOf number (p .lines) (p .format) words (stateOf latch (p .next)) ⌝ }
 {
-    let format = end.format;
-    let fields = end.next;
-    let next = State {
-        latch: end.pen.latch,
-        fields,
-    };
+    let format = p.format;
+    let fields = p.next;
+    let next = State { latch, fields };
     RowAnswer::Accepted(DrawnRow {
         number,
-        lines: end.lines,
+        lines: p.lines,
         format,
         words,
         next,

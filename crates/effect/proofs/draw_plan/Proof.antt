@@ -1,8 +1,8 @@
 use mathlib.Core.Path.{sym, _∙_}
 use Rattle.memory.proofs.Laws.{bind-given, bind-refused, run-done}
 use borrow.Author.Needs.{needs}
-use Rattle.row.proofs.draw_plan.Statement.{statement}
-use Rattle.row.proofs.draw_plan.Tie as tie
+use Rattle.effect.proofs.draw_plan.Statement.{statement}
+use Rattle.effect.proofs.draw_plan.Tie as tie
 
 returns : tie.Need-returns
 returns c =

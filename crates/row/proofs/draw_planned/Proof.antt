@@ -1,0 +1,53 @@
+use mathlib.Core.Path.{sym, ap, _∙_}
+use lib.Dec.{lit<}
+use Rattle.row.specs.Row.{withCursor, called, answered}
+use Rattle.row.proofs.RowBound.{row-bound}
+use Rattle.row.proofs.RowLaws.{plan-drawable, planned-refused, planned-drawn, whole-list}
+use borrow.Author.Needs.{needs}
+use Rattle.row.proofs.draw_planned.Statement.{statement}
+use Rattle.row.proofs.draw_planned.Tie as tie
+
+draw-cells-requires : tie.Need-draw-cells-requires
+draw-cells-requires c κs =
+    let a = c .before .before .before .before .before .args in
+    let k = plan-drawable (a .settings) (a .mem .now) (λ i. c .before .before .before .before .shared-slice-known .given i .fits) (a .state .fields) (c .before .before .before .before .before .pre .1) in
+    (k .0, (k .1, search needs))
+
+returns : tie.Need-returns
+returns c =
+    let a = c .before .before .before .before .before .before .before .before .before .before .before .args in (
+      lit< tt,
+      rw (c .refusal .ensures)
+          (ap (answered (a .settings) (a .state .fields) (a .buffer .now)) (planned-refused (a .settings) (a .mem .now) (a .state) (c .before .before .before .before .before .before .before .before .before .before .before .pre .1) (rw (c .before .before .number .given .1) at (c .before .before .before .before .before .draw-cells .ensures .1)))),
+    )
+
+returns-2 : tie.Need-returns-2
+returns-2 c =
+    let a = c .before .before .before .before .before .before .before .before .before .before .before .before .before .before .before .before .before .before .before .args in
+    let d = c .before .before .before .before .before .before .before .before .before .before .before .before .before .draw-cells in
+    let e = planned-drawn (a .settings) (a .mem .now) (a .state) (c .before .before .before .before .before .before .before .before .before .before .before .before .before .before .before .before .before .before .before .pre .1) (rw (c .before .before .before .before .before .before .before .before .before .before .pen .given .1) at (d .ensures .1)) in
+    let k = row-bound (a .settings) (a .mem .now) (λ i. c .before .before .before .before .before .before .before .before .before .before .before .before .before .before .before .before .before .before .shared-slice-known .given i .fits) (a .state) _ _ (sym e) in
+    let whole = whole-list (c .before .before .before .before .before .before .before .before .before .before .pen .given .0 .0 .column) (d .last .1 .1 .1 .1 .1 .1 .1 .1 .1 .0) (d .kept .1 .1 .1 .1 .1 .1 .1 .1 .1 .0) (k .1) in
+    rw (c .row-answer .ensures) (
+      k .0,
+      ap (called _) (c .before .before .before .copy-cells .ensures ∙ c .before .before .before .before .before .before .before .mark-cursor .ensures ∙ ap (withCursor (a .settings) (a .state .fields)) (sym whole))
+          ∙ ap (answered (a .settings) (a .state .fields) (a .buffer .now)) e,
+    )
+
+pub draw-planned-spec : {M : Type 1} → statement M
+draw-planned-spec =
+    tie.close
+    (tie.spec
+    (λ c. search needs)
+    draw-cells-requires
+    (λ c. search needs)
+    (λ c κs. search needs)
+    (λ c. search needs)
+    (λ c. search needs)
+    (λ c κs. search needs)
+    (λ c. search needs)
+    (λ c κs. search needs)
+    (λ c κs. search needs)
+    returns
+    (λ c. search needs)
+    returns-2)
