@@ -48,7 +48,7 @@ enum {
     THAGADUVIN_CURS,        /* 0 to 255 */
     THAGADUVIN_CURE,        /* 0 to 255 */
     THAGADUVIN_ROW_BLOCK,   /* address of the next row block, any number */
-    THAGADUVIN_WINDOW,      /* 1 a window is in hand, 0 none: what follows is then written as 0, and read without effect */
+    THAGADUVIN_WINDOW,      /* 1 a window is in hand, 0 none: what follows is then written as 0, and only its range is looked at */
     THAGADUVIN_WINDOW_TOP,  /* first row, 0 to 255 */
     THAGADUVIN_WINDOW_BOTTOM, /* last row, 0 to 255 */
     THAGADUVIN_WINDOW_LEFT, /* first column, 0 to 255 */
@@ -99,7 +99,8 @@ enum {
 enum { THAGADUVIN_CELLS = 132 };
 
 /* An effect: its part for a latch with ignore (bit 13) clear, then, 5 places on, the one for a latch with ignore set. A part refuses
- * where the number of its refusal is not 0; else it sets the latch or keeps it. Ten zeros are the empty effect. */
+ * where the number of its refusal is not 0; else it sets the latch or keeps it. What a part does not use is written as 0. Ten zeros
+ * are the empty effect. */
 enum {
     THAGADUVIN_PART_REFUSAL,   /* number of its refusal, 0 to 13 */
     THAGADUVIN_PART_ROW,       /* the refusal's row, 0 to 65535 */
