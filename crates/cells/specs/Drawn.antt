@@ -10,6 +10,8 @@ use Rattle.plan.specs.Layout.{total, Overlay, none, over, edgesFit}
 use Rattle.cells.specs.declared.Pen.{Pen}
 use Rattle.cells.specs.declared.Drawn.{Drawn}
 use Rattle.cells.specs.declared.Drawn.the-variants.{Went, Refused}
+use Rattle.cells.specs.declared.CellsDrawn.{CellsDrawn}
+use Rattle.cells.specs.declared.CellsDrawn.the-variants as Cells
 use Rattle.cells.specs.Cells.{Drawing, drawing}
 
 -- a row in the making, whose cells stand at the front of an array
@@ -19,6 +21,23 @@ soFar p cs = drawing p (take (p .column) cs)
 abbrev pub drawn : Drawn → List ℕ → Outcome Drawing
 drawn (Went p n) cs = given n (soFar p cs)
 drawn (Refused n a) cs = refused n a
+
+-- what the cells of a row come to: the latch, whether a word of this row became it, and the cells
+pub record Finished : Type 0 where
+  pub latch : ℕ
+  pub latched : Bool
+  pub cells : List ℕ
+
+abbrev pub ofDrawing : Drawing → Finished
+ofDrawing d = record { latch = d .pen .latch; latched = d .pen .latched; cells = d .cells }
+
+abbrev pub finish : Outcome Drawing → Outcome Finished
+finish (given n d) = given n (ofDrawing d)
+finish (refused n a) = refused n a
+
+abbrev pub finished : CellsDrawn → List ℕ → Outcome Finished
+finished (Cells.Went l b n) cs = given n (record { latch = l; latched = b; cells = cs })
+finished (Cells.Refused n a) cs = refused n a
 
 -- drawing went up to a column at most, or to a column, with no more words read than said
 abbrev pub Within : ℕ → ℕ → Drawn → Type 0

@@ -14,7 +14,7 @@ ghost use Rattle.blocks.specs.RowBlock.{segmentsOf};
 ghost use Rattle.plan.specs.Layout.{width, total, over, segmentsOn};
 ghost use Rattle.plan.specs.Plan.{overlayOf};
 ghost use Rattle.cells.specs.Cells.{codeCount, segment, segmentsTo, rowCells, blank};
-ghost use Rattle.cells.specs.Drawn.{soFar, drawn, Reached, Drawable};
+ghost use Rattle.cells.specs.Drawn.{soFar, drawn, finish, finished, Reached, Drawable};
 
 pub mod attribute; // attribute words, and the bits of a cell
 mod codes; // the codes of a segment
@@ -51,8 +51,66 @@ pub enum Drawn {
     Refused { number: u8, address: u32 },
 }
 
+// What the cells of a row came to: the latch, whether a word of this row became it, and the words read; or the refusal met.
+pub enum CellsDrawn {
+    Went {
+        latch: u16,
+        latched: bool,
+        words: u32,
+    },
+    Refused {
+        number: u8,
+        address: u32,
+    },
+}
+
 // The cells of a row from a latch, in order, as its plan says: the background's segments in `back`, a window's in `window`.
 pub fn draw_cells(
+    mem: &[u16],
+    settings: Settings,
+    fill: FillMode,
+    overlay: OverlayHead,
+    back: &[u16; 75],
+    count: u8,
+    window: &[u16; 75],
+    latch: u16,
+    words: u32,
+    cells: &mut [u32],
+) -> CellsDrawn
+    requires { ⌜ Drawable (settings .hidden) (overlayOf (settings .linear) overlay (now window)) (segmentsOf (settings .linear) count (now back)) ⌝ }
+    requires { ⌜ (words ≤ 1000) × (length (now cells) ≡ 132) ⌝ }
+    ensures { λ r. ⌜ finished r (now (cells .exit)) ≡ finish (runFrom words (now (mem .entry)) (rowCells settings fill (overlayOf (settings .linear) overlay (now (window .entry))) (segmentsOf (settings .linear) count (now (back .entry))) (blank latch))) ⌝ }
+{
+    match walk_cells(
+        mem,
+        settings,
+        fill,
+        overlay,
+        back,
+        count,
+        window,
+        latch,
+        words,
+        cells,
+    ) {
+        Drawn::Refused { number, address } => CellsDrawn::Refused { number, address },
+        Drawn::Went { pen, words: read } => CellsDrawn::Went {
+            latch: pen.latch,
+            latched: pen.latched,
+            words: read,
+        },
+    }
+}
+
+// How many codes of a segment are examined.
+pub fn code_count(g: Segment) -> u32
+    ensures { λ r. ⌜ (r ≡ codeCount g) × (r ≤ 255) ⌝ }
+{
+    if g.codes == 0 { 0 } else { g.length as u32 }
+}
+
+// The walk from left to right.
+fn walk_cells(
     mem: &[u16],
     settings: Settings,
     fill: FillMode,
@@ -103,13 +161,6 @@ pub fn draw_cells(
             cells,
         ),
     }
-}
-
-// How many codes of a segment are examined.
-pub fn code_count(g: Segment) -> u32
-    ensures { λ r. ⌜ (r ≡ codeCount g) × (r ≤ 255) ⌝ }
-{
-    if g.codes == 0 { 0 } else { g.length as u32 }
 }
 
 // The background before a window, the window, and the background after it.

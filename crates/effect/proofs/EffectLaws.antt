@@ -1,16 +1,23 @@
 -- A row's outcomes from its plan: refused as the plan is, or gone on from it; and its effect, where its latch was followed.
-use mathlib.Core.Path.{_≡_, refl, sym, _∙_}
+use mathlib.Core.Path.{_≡_, refl, ap, ap₂, sym, _∙_}
 use mathlib.Core.Bool.{Bool, true, false}
 use mathlib.Core.List.{List}
 use Prim.Native.Nat.{ℕ}
+use Rattle.memory.specs.Word.{if_then_else_}
 use Rattle.memory.specs.Reading.{Reading, done, _>>=_, Outcome, given, refused, runFrom, run}
 use Rattle.memory.proofs.Laws.{bind-given, bind-refused, run-done}
 use Rattle.memory.proofs.ReadBounds.{if-cases}
 use Rattle.settings.specs.declared.Settings.{Settings}
 use Rattle.plan.specs.declared.Fields.{Fields}
+use Rattle.plan.specs.declared.State.{State}
 use Rattle.plan.specs.Plan.{Plan, plan}
+use Rattle.cells.specs.declared.CellsDrawn.{CellsDrawn}
+use Rattle.cells.specs.declared.CellsDrawn.the-variants as Cells
 use Rattle.cells.specs.Cells.{Drawing, blank, rowCells}
+use Rattle.cells.specs.Drawn.{Finished, finish, finished}
+use Rattle.cells.proofs.FinishLaws.{finish-refused, finish-given}
 use Rattle.row.specs.Row.{Row, drawnBy, fromPlan, row}
+use Rattle.row.proofs.RowLaws.{planned-refused, planned-drawn}
 use Rattle.follow.specs.declared.Followed.{Followed}
 use Rattle.follow.specs.declared.Followed.the-variants.{Kept, Latched, Unclear}
 use Rattle.follow.specs.Follow.{ending, AsDrawn}
@@ -18,7 +25,7 @@ use Rattle.effect.specs.declared.Part.{Part}
 use Rattle.effect.specs.declared.Part.the-variants.{Keep, Set}
 use Rattle.effect.specs.declared.NextFields.{NextFields}
 use Rattle.effect.specs.declared.NextFields.the-variants.{Reached}
-use Rattle.effect.specs.Effect.{partOf, nextOf, latchWith, outcomeFor, effectCall, sameParts}
+use Rattle.effect.specs.Effect.{partOf, nextOf, latchWith, outcomeFor, effectCall, sameParts, partDrawn, nextDrawn}
 
 module _ (σ : Settings) (m : List ℕ) (f : Fields) where
   pub plan-refused : {n a : ℕ} → refused n a ≡ run m (plan σ f) → (ignore : Bool) → refused n a ≡ outcomeFor σ m f ignore
@@ -63,3 +70,16 @@ module _ (σ : Settings) (m : List ℕ) (f : Fields) where
 
     pub latched-effect : (w : ℕ) → AsDrawn σ m (f .fill) (p .overlay) (p .segments) (Latched w) → sameParts (Set w) (p .next) ≡ effectCall σ m f
     latched-effect w h = same (Set w) (λ ignore. row-ends (Latched w) ignore (h n (latchWith ignore)))
+
+-- what the cells of a planned row tell is the row's
+module _ (σ : Settings) (m : List ℕ) (s : State) {n : ℕ} {p : Plan} (e : given n p ≡ run m (plan σ (s .fields))) where
+  pub cells-row : (c : CellsDrawn) (cs : List ℕ)
+      → finished c cs ≡ finish (runFrom n m (rowCells σ (s .fields .fill) (p .overlay) (p .segments) (blank (s .latch))))
+      → (partDrawn (s .fields) c ≡ partOf (s .fields) (run m (row σ s))) × ((x : NextFields) → nextDrawn (p .next) c x ≡ nextOf (run m (row σ s)) x)
+  cells-row (Cells.Refused i a) cs h = rw (← planned-refused σ m s e (finish-refused _ h)) (refl, λ x. refl)
+  cells-row (Cells.Went l b i) cs h =
+      let g = finish-given _ h in
+      rw (← planned-drawn σ m s e (g .is)) (
+        ap₂ (λ (b : Bool) (w : ℕ). if b then Set w else Keep) (ap (λ (f : Finished). f .latched) (g .same)) (ap (λ (f : Finished). f .latch) (g .same)),
+        λ x. refl,
+      )

@@ -7,20 +7,14 @@ use Rattle.memory.specs.Reading.{Outcome, given, refused, run}
 use Rattle.settings.specs.declared.Settings.{Settings}
 use Rattle.plan.specs.declared.Fields.{Fields}
 use Rattle.plan.specs.State.{stateOf, refusal}
-use Rattle.cells.specs.Drawn.{soFar}
 use Rattle.row.specs.Row.{Row, row}
-use Rattle.effect.specs.declared.RowDrawn.{RowDrawn}
-use Rattle.effect.specs.declared.RowDrawn.the-variants as Drawn
+use Rattle.cells.specs.declared.CellsDrawn.{CellsDrawn}
+use Rattle.cells.specs.declared.CellsDrawn.the-variants as Cells
 use Rattle.effect.specs.declared.Part.{Part}
 use Rattle.effect.specs.declared.Part.the-variants.{Keep, Set, Refuse}
 use Rattle.effect.specs.declared.NextFields.{NextFields}
 use Rattle.effect.specs.declared.NextFields.the-variants.{Reached, Unreached}
 use Rattle.effect.specs.declared.EffectAnswer.{EffectAnswer}
-
--- the answer of `draw_plan`, with the cells that it leaves, as an outcome
-abbrev pub rowDrawn : RowDrawn → List ℕ → Outcome Row
-rowDrawn (Drawn.Went e n) cs = given n (record { lines = e .lines; format = e .format; next = e .next; drawing = soFar (e .pen) cs })
-rowDrawn (Drawn.Refused n a) cs = refused n a
 
 -- "A part is the refusal that a row gives from such a latch; without one, the last word that became the latch; without one, keep."
 abbrev pub partOf : Fields → Outcome Row → Part
@@ -55,3 +49,18 @@ effectCall σ m f = effectOf f (outcomeFor σ m f false) (outcomeFor σ m f true
 -- the answer of a row that is accepted and has one part for either latch
 abbrev pub sameParts : Part → Fields → EffectAnswer
 sameParts part next = record { effect = record { clear = part; set = part }; next = Reached next }
+
+-- the part and the next fields that the cells of a planned row tell, and the answer
+abbrev pub partDrawn : Fields → CellsDrawn → Part
+partDrawn f (Cells.Refused n a) = Refuse (refusal (f .row) n a)
+partDrawn f (Cells.Went latch latched n) = if latched then Set latch else Keep
+
+abbrev pub nextDrawn : Fields → CellsDrawn → NextFields → NextFields
+nextDrawn reached (Cells.Went latch latched n) otherwise = Reached reached
+nextDrawn reached (Cells.Refused n a) otherwise = otherwise
+
+abbrev pub effectDrawn : Fields → Fields → CellsDrawn → CellsDrawn → EffectAnswer
+effectDrawn f reached clear set = record {
+  effect = record { clear = partDrawn f clear; set = partDrawn f set };
+  next = nextDrawn reached clear (nextDrawn reached set Unreached);
+}

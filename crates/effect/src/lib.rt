@@ -1,8 +1,5 @@
 // Effects of rows on the latch.
-use blocks::FillMode;
-use blocks::RowFormat;
-use cells::Drawn;
-use cells::Pen;
+use cells::CellsDrawn;
 use follow::Followed;
 use memory::Refusal;
 use plan::Fields;
@@ -10,16 +7,13 @@ use plan::PlanAnswer;
 use plan::PlanHead;
 use settings::Settings;
 ghost use mathlib.Core.Path.{_≡_};
-ghost use mathlib.Core.List.{List};
-ghost use Prim.Native.Nat.{ℕ, _≤_};
-ghost use lib.ListN.{length};
-ghost use Rattle.memory.specs.Reading.{given, runFrom, run};
-ghost use Rattle.blocks.specs.RowBlock.{segmentsOf};
-ghost use Rattle.plan.specs.Plan.{overlayOf, planOf, plan};
-ghost use Rattle.cells.specs.Drawn.{Drawable};
-ghost use Rattle.row.specs.Row.{fromPlan};
+ghost use Rattle.memory.specs.Reading.{given, run};
+ghost use Rattle.plan.specs.Plan.{planOf, plan};
+ghost use Rattle.plan.specs.State.{stateOf};
+ghost use Rattle.row.specs.Row.{row};
+ghost use Rattle.effect.specs.declared.NextFields.{NextFields};
 ghost use Rattle.effect.specs.Join.{partFor, setThen, joinPart, join, apply};
-ghost use Rattle.effect.specs.Effect.{rowDrawn, partOf, nextOf, effectOf, effectCall, sameParts};
+ghost use Rattle.effect.specs.Effect.{partOf, nextOf, effectCall, sameParts, partDrawn, nextDrawn, effectDrawn};
 
 // What a row does to the latch: keep it, set it to a word, or refuse.
 pub enum Part {
@@ -50,19 +44,6 @@ pub enum NextFields {
 pub struct EffectAnswer {
     pub effect: Effect,
     pub next: NextFields,
-}
-
-// Where a row's drawing ended: its lines and format, the next state's fields, and the pen.
-struct RowEnd {
-    lines: u16,
-    format: RowFormat,
-    next: Fields,
-    pen: Pen,
-}
-
-enum RowDrawn {
-    Went { end: RowEnd, words: u32 },
-    Refused { number: u8, address: u32 },
 }
 
 impl Effect {
@@ -104,8 +85,8 @@ pub fn row_effect(settings: Settings, mem: &[u16], fields: Fields) -> EffectAnsw
     let mut window = [0u16; 75];
     match plan::plan_row(mem, settings, fields, &mut back, &mut window) {
         PlanAnswer::Refused { number, address } => {
-            let refused = RowDrawn::Refused { number, address };
-            effect_of(fields, refused, refused)
+            let refused = CellsDrawn::Refused { number, address };
+            effect_of(fields, fields, refused, refused)
         }
         PlanAnswer::Planned(p) => {
             let fill = fields.fill;
@@ -146,32 +127,30 @@ fn drawn_effect(
     requires { ⌜ given (p .words) (planOf (settings .linear) p (now back) (now window)) ≡ run (now mem) (plan settings fields) ⌝ }
     ensures { λ r. ⌜ r ≡ effectCall settings (now (mem .entry)) fields ⌝ }
 {
-    let fill = fields.fill;
-    let mut cells = [0u32; 132];
-    let clear = draw_plan(settings, mem, fill, p, back, window, 0, &mut cells);
-    let set = draw_plan(settings, mem, fill, p, back, window, 0x2000, &mut cells);
-    effect_of(fields, clear, set)
+    let clear = draw_from(settings, mem, fields, p, back, window, 0);
+    let set = draw_from(settings, mem, fields, p, back, window, 0x2000);
+    let next = p.next;
+    effect_of(fields, next, clear, set)
 }
 
-// The cells of a planned row.
-fn draw_plan(
+// The cells of a planned row from a latch, for what becomes of that.
+fn draw_from(
     settings: Settings,
     mem: &[u16],
-    fill: FillMode,
+    fields: Fields,
     p: PlanHead,
     back: &[u16; 75],
     window: &[u16; 75],
     latch: u16,
-    cells: &mut [u32],
-) -> RowDrawn
-    requires { ⌜ Drawable (settings .hidden) (overlayOf (settings .linear) (p .overlay) (now window)) (segmentsOf (settings .linear) (p .count) (now back)) ⌝ }
-    requires { ⌜ (p .words ≤ 1000) × (length (now cells) ≡ 132) ⌝ }
-    ensures { λ r. ⌜ rowDrawn r (now (cells .exit)) ≡ runFrom (p .words) (now (mem .entry)) (fromPlan settings fill latch (planOf (settings .linear) p (now (back .entry)) (now (window .entry)))) ⌝ }
+) -> CellsDrawn
+    requires { ⌜ given (p .words) (planOf (settings .linear) p (now back) (now window)) ≡ run (now mem) (plan settings fields) ⌝ }
+    ensures { λ r. ⌜ partDrawn fields r ≡ partOf fields (run (now (mem .entry)) (row settings (stateOf latch fields))) ⌝ }
+    ensures { λ r. ⌜ ((x : NextFields) → nextDrawn (p .next) r x ≡ nextOf (run (now (mem .entry)) (row settings (stateOf latch fields))) x) ⌝ }
 {
+    let fill = fields.fill;
     let overlay = p.overlay;
-    let next = p.next;
-    let format = p.format;
-    match cells::draw_cells(
+    let mut cells = [0u32; 132];
+    cells::draw_cells(
         mem,
         settings,
         fill,
@@ -181,46 +160,39 @@ fn draw_plan(
         window,
         latch,
         p.words,
-        cells,
-    ) {
-        Drawn::Refused { number, address } => RowDrawn::Refused { number, address },
-        Drawn::Went { pen, words } => {
-            let end = RowEnd {
-                lines: p.lines,
-                format,
-                next,
-                pen,
-            };
-            RowDrawn::Went { end, words }
-        }
-    }
+        &mut cells,
+    )
 }
 
-// The answer of an effect call, from the row with ignore clear and the row with it set.
-fn effect_of(fields: Fields, clear: RowDrawn, set: RowDrawn) -> EffectAnswer
-    ensures { λ r. ⌜ ((xs ys : List ℕ) → r ≡ effectOf fields (rowDrawn clear xs) (rowDrawn set ys)) ⌝ }
+// The answer of an effect call, from a row's cells with ignore clear and with it set.
+fn effect_of(fields: Fields, reached: Fields, clear: CellsDrawn, set: CellsDrawn) -> EffectAnswer
+    ensures { λ r. ⌜ r ≡ effectDrawn fields reached clear set ⌝ }
 {
     let effect = Effect {
         clear: part_of(fields, clear),
         set: part_of(fields, set),
     };
-    let next = next_of(clear, next_of(set, NextFields::Unreached));
+    let next = next_of(reached, clear, next_of(reached, set, NextFields::Unreached));
     EffectAnswer { effect, next }
 }
 
 // The part that a row has, drawn from a latch of its ignore.
-fn part_of(fields: Fields, d: RowDrawn) -> Part
-    ensures { λ r. ⌜ ((cs : List ℕ) → r ≡ partOf fields (rowDrawn d cs)) ⌝ }
+fn part_of(fields: Fields, d: CellsDrawn) -> Part
+    ensures { λ r. ⌜ r ≡ partDrawn fields d ⌝ }
 {
     match d {
-        RowDrawn::Refused { number, address } => Part::Refuse(Refusal {
+        CellsDrawn::Refused { number, address } => Part::Refuse(Refusal {
             number,
             row: fields.row,
             address,
         }),
-        RowDrawn::Went { end, words: _ } => {
-            if end.pen.latched {
-                Part::Set(end.pen.latch)
+        CellsDrawn::Went {
+            latch,
+            latched,
+            words: _,
+        } => {
+            if latched {
+                Part::Set(latch)
             } else {
                 Part::Keep
             }
@@ -228,19 +200,20 @@ fn part_of(fields: Fields, d: RowDrawn) -> Part
     }
 }
 
-// The next state's fields, or those given where the row is refused.
-fn next_of(d: RowDrawn, otherwise: NextFields) -> NextFields
-    ensures { λ r. ⌜ ((cs : List ℕ) → r ≡ nextOf (rowDrawn d cs) otherwise) ⌝ }
+// The fields reached, or those given where the row is refused.
+fn next_of(reached: Fields, d: CellsDrawn, otherwise: NextFields) -> NextFields
+    ensures { λ r. ⌜ r ≡ nextDrawn reached d otherwise ⌝ }
 {
     match d {
-        RowDrawn::Refused {
+        CellsDrawn::Refused {
             number: _,
             address: _,
         } => otherwise,
-        RowDrawn::Went { end, words: _ } => {
-            let next = end.next;
-            NextFields::Reached(next)
-        }
+        CellsDrawn::Went {
+            latch: _,
+            latched: _,
+            words: _,
+        } => NextFields::Reached(reached),
     }
 }
 

@@ -5,7 +5,7 @@ use mathlib.Core.Bool.{Bool, true, false, _&&_, _||_, not}
 use mathlib.Core.List.{List, []}
 use Prim.Native.Nat.{ℕ, zero, suc, _+_, _-_}
 use lib.Dec.{ltb}
-use Rattle.memory.specs.Word.{if_then_else_, high, low}
+use Rattle.memory.specs.Word.{if_then_else_}
 use Rattle.memory.specs.Reading.{Reading, done, _>>=_, Outcome, given, refused, runFrom, run}
 use Rattle.memory.specs.Address.{nextWord}
 use Rattle.memory.proofs.Laws.{bind-given, bind-refused}

@@ -4,7 +4,7 @@ use blocks::MainRead;
 use blocks::RowFormat;
 use blocks::WindowInHand;
 use blocks::WindowRead;
-use cells::Drawn;
+use cells::CellsDrawn;
 use memory::Refusal;
 use plan::Fields;
 use plan::PlanAnswer;
@@ -110,13 +110,17 @@ fn draw_planned(
         p.words,
         &mut cells,
     ) {
-        Drawn::Refused { number, address } => {
+        CellsDrawn::Refused { number, address } => {
             RowAnswer::Refused(refusal(fields.row, number, address))
         }
-        Drawn::Went { pen, words } => {
+        CellsDrawn::Went {
+            latch,
+            latched: _,
+            words,
+        } => {
             mark_cursor(settings, fields, &mut cells);
             copy_cells(&cells, buffer);
-            row_answer(fields.row, p, pen.latch, words)
+            row_answer(fields.row, p, latch, words)
         }
     }
 }

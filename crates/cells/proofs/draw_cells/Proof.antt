@@ -1,41 +1,26 @@
-use mathlib.Core.Path.{refl, _∙_}
-use Prim.Native.Nat.{_+_}
+use mathlib.Core.Path.{_≡_, ap, sym, _∙_}
+use mathlib.Core.List.{List}
+use Prim.Native.Nat.{ℕ}
 use native.Mathlib.Omega.{arith}
-use Rattle.blocks.specs.RowBlock.{segmentsOf}
-use Rattle.plan.proofs.LayoutLaws.{whole-all}
-use Rattle.cells.specs.Cells.{rowCells}
-use Rattle.cells.proofs.CellLaws.{reached-more}
+use lib.ListN.{take}
+use lib.Seq.{take-all}
+use Rattle.memory.specs.Reading.{given}
+use Rattle.cells.specs.Drawn.{finish}
 use borrow.Author.Needs.{needs}
 use Rattle.cells.proofs.draw_cells.Statement.{statement}
 use Rattle.cells.proofs.draw_cells.Tie as tie
 
-draw-run-requires : tie.Need-draw-run-requires
-draw-run-requires c κs =
-    let a = c .before .before .before .before .before .before .args in
-    let p = rw (c .before .enum-told .given .1) at (c .before .before .before .before .before .before .pre .0) in (
-      (omega (arith, c .before .before .before .before .before .before .pre .1 .1), omega (arith, c .before .before .before .before .before .before .pre .1 .0)),
-      rw (c .before .before .before .blank .ensures, whole-all (a .settings .hidden) 0 (segmentsOf (a .settings .linear) (a .count) (a .back .now))) (omega (arith, p .narrow)),
-    )
-
-draw-around-requires : tie.Need-draw-around-requires
-draw-around-requires c κs =
-    let p = rw (c .before .before .overlay .given .1) at (c .before .before .before .before .before .before .before .pre .0) in
-    (p, rw (c .before .before .before .before .blank .ensures) (refl, c .before .before .before .before .before .before .before .pre .1 .1, c .before .before .before .before .before .before .before .pre .1 .0))
-
 returns : tie.Need-returns
-unfolding rowCells
-returns c =
-    let a = c .before .before .before .before .before .before .before .before .before .args in
-    let r = c .before .before .draw-run in (
-      reached-more 132 (a .words + 131000) (a .words + 400000) (r .result) (r .ensures .0) (omega arith),
-      rw (c .before .before .before .before .before .before .blank .ensures, whole-all (a .settings .hidden) 0 (segmentsOf (a .settings .linear) (a .count) (a .back .now))) at (r .ensures .1)
-          ∙ rw (c .before .before .before .before .enum-told .given .1),
-    )
+returns c = ap finish (rw (c .before .number .given .1) at (c .before .before .before .before .before .walk-cells .ensures .1))
 
 returns-2 : tie.Need-returns-2
 returns-2 c =
-    let r = c .before .before .draw-around in
-    (r .ensures .0, rw (c .before .before .before .before .before .before .before .blank .ensures) at (r .ensures .1) ∙ rw (c .before .before .before .before .before .overlay .given .1))
+    let w = c .before .before .before .before .before .walk-cells in
+    let pen = c .before .pen .given .0 .0 in
+    let cells = w .last .1 .1 .1 .1 .1 .1 .1 .1 .1 .0 in
+    let end = rw (c .before .pen .given .1) at (w .ensures .0) in
+    let whole : take (pen .column) cells ≡ cells = take-all (pen .column) cells (omega (arith, end .0, w .kept .1 .1 .1 .1 .1 .1 .1 .1 .1 .0, c .before .before .before .before .before .before .before .before .before .pre .1 .1)) in
+    ap (λ (cs : List ℕ). given (c .before .pen .given .0 .1 .0) (record { latch = pen .latch; latched = pen .latched; cells = cs })) (sym whole) ∙ ap finish (rw (c .before .pen .given .1) at (w .ensures .1))
 
 pub draw-cells-spec : {M : Type 1} → statement M
 draw-cells-spec =
@@ -43,9 +28,7 @@ draw-cells-spec =
     (tie.spec
     (λ c κs. search needs)
     (λ c. search needs)
-    draw-run-requires
     (λ c. search needs)
-    draw-around-requires
     (λ c. search needs)
     returns
     (λ c. search needs)

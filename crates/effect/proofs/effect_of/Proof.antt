@@ -3,15 +3,8 @@ use Rattle.effect.proofs.effect_of.Statement.{statement}
 use Rattle.effect.proofs.effect_of.Tie as tie
 
 returns : tie.Need-returns
-returns c xs ys =
-    rw (← c .before .before .before .part-of .ensures xs, ← c .before .before .part-of2 .ensures ys, ← c .before .next-of .ensures ys, ← c .next-of2 .ensures xs)
+returns c = rw (c .before .before .before .part-of .ensures, c .before .before .part-of2 .ensures, c .next-of2 .ensures, c .before .next-of .ensures)
 
 pub effect-of-spec : {M : Type 1} → statement M
 effect-of-spec =
-    tie.close
-    (tie.spec
-    (λ c κs. search needs)
-    (λ c κs. search needs)
-    (λ c κs. search needs)
-    (λ c κs. search needs)
-    returns)
+    tie.close (tie.spec (λ c κs. search needs) (λ c κs. search needs) (λ c κs. search needs) (λ c κs. search needs) returns)

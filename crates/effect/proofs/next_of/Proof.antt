@@ -3,16 +3,10 @@ use Rattle.effect.proofs.next_of.Statement.{statement}
 use Rattle.effect.proofs.next_of.Tie as tie
 
 returns : tie.Need-returns
-returns c cs = rw (c .enum-told .given .1)
+returns c = rw (c .enum-told .given .1)
 
 returns-2 : tie.Need-returns-2
-returns-2 c cs = rw (c .before .before .d .given .1)
+returns-2 c = rw (c .enum-told2 .given .1)
 
 pub next-of-spec : {M : Type 1} → statement M
-next-of-spec =
-    tie.close
-    (tie.spec
-    (λ c. search needs)
-    (λ c. search needs)
-    returns
-    returns-2)
+next-of-spec = tie.close (tie.spec (λ c. search needs) (λ c. search needs) returns returns-2)

@@ -1,6 +1,5 @@
 use mathlib.Core.Path.{ap₂, _∙_}
 use mathlib.Core.Bool.{true, false}
-use mathlib.Core.List.{[]}
 use Rattle.effect.specs.Effect.{effectOf, effectCall}
 use Rattle.effect.proofs.EffectLaws.{plan-refused, kept-effect, latched-effect}
 use borrow.Author.Needs.{needs}
@@ -17,7 +16,7 @@ unfolding effectCall
 returns c =
     let a = c .before .before .before .before .before .before .before .before .args in
     let law = plan-refused (a .settings) (a .mem .now) (a .fields) (rw (c .before .before .number .given .1) at (c .before .before .before .before .plan-row .ensures)) in
-    c .effect-of .ensures [] [] ∙ ap₂ (effectOf (a .fields)) (law false) (law true)
+    c .effect-of .ensures ∙ ap₂ (effectOf (a .fields)) (law false) (law true)
 
 returns-2 : tie.Need-returns-2
 returns-2 c =

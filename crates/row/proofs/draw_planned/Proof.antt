@@ -1,8 +1,13 @@
-use mathlib.Core.Path.{sym, ap, _∙_}
+use mathlib.Core.Path.{sym, ap, ap₂, _∙_}
+use mathlib.Core.List.{List}
+use Prim.Native.Nat.{ℕ}
 use lib.Dec.{lit<}
-use Rattle.row.specs.Row.{withCursor, called, answered}
+use Rattle.plan.specs.State.{stateOf}
+use Rattle.cells.specs.Drawn.{Finished}
+use Rattle.cells.proofs.FinishLaws.{finish-refused, finish-given}
+use Rattle.row.specs.Row.{withCursor, called, answerOf, answered}
 use Rattle.row.proofs.RowBound.{row-bound}
-use Rattle.row.proofs.RowLaws.{plan-drawable, planned-refused, planned-drawn, whole-list}
+use Rattle.row.proofs.RowLaws.{plan-drawable, planned-refused, planned-drawn}
 use borrow.Author.Needs.{needs}
 use Rattle.row.proofs.draw_planned.Statement.{statement}
 use Rattle.row.proofs.draw_planned.Tie as tie
@@ -18,19 +23,20 @@ returns c =
     let a = c .before .before .before .before .before .before .before .before .before .before .before .args in (
       lit< tt,
       rw (c .refusal .ensures)
-          (ap (answered (a .settings) (a .state .fields) (a .buffer .now)) (planned-refused (a .settings) (a .mem .now) (a .state) (c .before .before .before .before .before .before .before .before .before .before .before .pre .1) (rw (c .before .before .number .given .1) at (c .before .before .before .before .before .draw-cells .ensures .1)))),
+          (ap (answered (a .settings) (a .state .fields) (a .buffer .now)) (planned-refused (a .settings) (a .mem .now) (a .state) (c .before .before .before .before .before .before .before .before .before .before .before .pre .1) (finish-refused _ (rw (c .before .before .number .given .1) at (c .before .before .before .before .before .draw-cells .ensures))))),
     )
 
 returns-2 : tie.Need-returns-2
 returns-2 c =
     let a = c .before .before .before .before .before .before .before .before .before .before .before .before .before .before .before .before .before .before .before .args in
-    let d = c .before .before .before .before .before .before .before .before .before .before .before .before .before .draw-cells in
-    let e = planned-drawn (a .settings) (a .mem .now) (a .state) (c .before .before .before .before .before .before .before .before .before .before .before .before .before .before .before .before .before .before .before .pre .1) (rw (c .before .before .before .before .before .before .before .before .before .before .pen .given .1) at (d .ensures .1)) in
+    let g = finish-given _ (rw (c .before .before .before .before .before .before .before .before .before .before .latch .given .1) at (c .before .before .before .before .before .before .before .before .before .before .before .before .before .draw-cells .ensures)) in
+    let e = planned-drawn (a .settings) (a .mem .now) (a .state) (c .before .before .before .before .before .before .before .before .before .before .before .before .before .before .before .before .before .before .before .pre .1) (g .is) in
     let k = row-bound (a .settings) (a .mem .now) (λ i. c .before .before .before .before .before .before .before .before .before .before .before .before .before .before .before .before .before .before .shared-slice-known .given i .fits) (a .state) _ _ (sym e) in
-    let whole = whole-list (c .before .before .before .before .before .before .before .before .before .before .pen .given .0 .0 .column) (d .last .1 .1 .1 .1 .1 .1 .1 .1 .1 .0) (d .kept .1 .1 .1 .1 .1 .1 .1 .1 .1 .0) (k .1) in
     rw (c .row-answer .ensures) (
       k .0,
-      ap (called _) (c .before .before .before .copy-cells .ensures ∙ c .before .before .before .before .before .before .before .mark-cursor .ensures ∙ ap (withCursor (a .settings) (a .state .fields)) (sym whole))
+      ap₂ (λ (latch : ℕ) (cs : List ℕ). called (answerOf (a .state .fields .row) (a .p .lines) (a .p .format) (c .before .before .before .before .before .before .before .before .before .before .latch .given .0 .1 .1 .0) (stateOf latch (a .p .next))) cs)
+          (ap (λ (f : Finished). f .latch) (g .same))
+          (c .before .before .before .copy-cells .ensures ∙ c .before .before .before .before .before .before .before .mark-cursor .ensures ∙ ap (λ (f : Finished). withCursor (a .settings) (a .state .fields) (f .cells)) (g .same))
           ∙ ap (answered (a .settings) (a .state .fields) (a .buffer .now)) e,
     )
 

@@ -1,5 +1,5 @@
 use mathlib.Core.Path.{ap, sym, _∙_}
-use borrow.Author.Tests.{not-true, not-false, eq-eqb, ne-eqb}
+use borrow.Author.Tests.{not-true, not-false}
 use Rattle.row.specs.Start.{started, startCall}
 use Rattle.row.proofs.StartLaws.{settings-bad, top-null, main-missing, main-read}
 use borrow.Author.Needs.{needs}

@@ -1,4 +1,4 @@
-use mathlib.Core.Path.{ap, sym, _∙_}
+use mathlib.Core.Path.{ap, sym}
 use native.Mathlib.Omega.{arith}
 use Rattle.memory.proofs.ReadBounds.{reads-given}
 use Rattle.blocks.proofs.BlockBounds.{window-reads}

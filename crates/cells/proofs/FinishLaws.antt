@@ -1,0 +1,27 @@
+-- A drawing's outcome, from what its finished cells say.
+use mathlib.Core.Path.{_≡_, ap, ap₂}
+use Prim.Native.Nat.{ℕ}
+use native.Mathlib.Omega.{arith}
+use Rattle.memory.specs.Reading.{Outcome, given, refused}
+use Rattle.cells.specs.Cells.{Drawing}
+use Rattle.cells.specs.Drawn.{Finished, ofDrawing, finish}
+
+pub finish-refused : (o : Outcome Drawing) {n a : ℕ} → refused n a ≡ finish o → refused n a ≡ o
+finish-refused (given k d) e = cc
+finish-refused (refused k b) {n} {a} e =
+    let number : n ≡ k = cc in
+    let address : a ≡ b = cc in
+    ap₂ refused number address
+
+-- the drawing that cells were finished from
+pub record From (o : Outcome Drawing) (n : ℕ) (f : Finished) : Type 0 where
+  pub drawing : Drawing
+  pub is : given n drawing ≡ o
+  pub same : f ≡ ofDrawing drawing
+
+pub finish-given : (o : Outcome Drawing) {n : ℕ} {f : Finished} → given n f ≡ finish o → From o n f
+finish-given (given k d) {n} {f} e =
+    let count : n ≡ k = cc in
+    let made : f ≡ ofDrawing d = cc in
+    record { drawing = d; is = ap (λ (i : ℕ). given i d) count; same = made }
+finish-given (refused k b) e = let q : _≡_ {A = ℕ} 0 1 = cc in absurd (omega (arith, q))
