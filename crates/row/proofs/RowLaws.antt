@@ -4,8 +4,8 @@ use mathlib.Core.Bool.{Bool, true, false, _&&_}
 use mathlib.Core.List.{List}
 use Prim.Native.Nat.{ℕ, _≤_}
 use native.Mathlib.Omega.{arith}
-use lib.ListN.{length, take, set, length-take}
-use lib.Seq.{set-out, take-all}
+use lib.ListN.{length, set}
+use lib.Seq.{set-out}
 use lib.Dec.{ltb, lit≤}
 use borrow.Author.Tests.{ltb-false}
 use Rattle.memory.specs.Word.{if_then_else_}
@@ -58,7 +58,3 @@ module _ (σ : Settings) (m : List ℕ) (s : State) {n : ℕ} {p : Plan} (e : gi
 pub mark-off : (b : Bool) (x v : ℕ) (cs : List ℕ) → b && ltb x 132 ≡ false → length cs ≡ 132 → cs ≡ (if b then set cs x v else cs)
 mark-off true x v cs e l = sym (set-out cs x v (omega (arith, ltb-false x 132 e)))
 mark-off false x v cs e l = refl
-
--- as many cells as a list has at most, and that many: the list
-pub whole-list : (n : ℕ) (cs : List ℕ) → length cs ≡ 132 → length (take n cs) ≡ 132 → take n cs ≡ cs
-whole-list n cs l e = take-all n cs (omega (arith, length-take n cs))
