@@ -18,7 +18,7 @@ use Rattle.blocks.specs.declared.Window.{Window}
 use Rattle.blocks.specs.declared.WindowInHand.{WindowInHand}
 use Rattle.blocks.specs.declared.WindowInHand.the-variants.{Absent, Present}
 use Rattle.blocks.specs.Main.{at, mainBlockAt}
-use Rattle.blocks.specs.RowBlock.{null, segmentOf, segmentsOf, restOfBlock, blockAt, rowBlockAt, windowRowAt, redefined}
+use Rattle.blocks.specs.RowBlock.{formatOf, null, segmentOf, segmentsOf, restOfBlock, blockAt, rowBlockAt, windowRowAt, redefined}
 use Rattle.blocks.specs.Window.{windowOf, inOrder, windowAt, dueWindow}
 
 -- ---- row blocks ----
@@ -73,10 +73,12 @@ pub main-block-reads : (linear : Bool) (a : ℕ) → Reads (λ _. Unit {0}) 7 (m
 unfolding mainBlockAt
 main-block-reads linear a = bind {n = 7} {k = 0} (omega arith) (words-read linear 7 a) λ _ _. dones tt
 
-pub redefined-reads : (linear : Bool) (a : ℕ) (format : RowFormat) → Reads (λ _. Unit {0}) 3 (redefined linear a format)
-unfolding redefined
+-- a row that has a scan line has one redefined
+pub redefined-reads : (linear : Bool) (a : ℕ) (format : RowFormat)
+    → Reads (λ t. 1 ≤ format .lines → 1 ≤ t .lines) 3 (redefined linear a format)
+unfolding redefined formatOf
 redefined-reads linear a format =
-    if-reads (null a) (λ _. dones tt) λ _. bind {n = 3} {k = 0} (omega arith) (words-read linear 3 a) λ _ _. dones tt
+    if-reads (null a) (λ _. dones (λ h. h)) λ _. bind {n = 3} {k = 0} (omega arith) (words-read linear 3 a) λ _ _. dones (λ _. omega arith)
 
 -- ---- windows ----
 abbrev pub Placed : WindowInHand → Type 0

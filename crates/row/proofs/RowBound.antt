@@ -1,4 +1,5 @@
--- Document 01: "The word count is every word read; a row reads fewer than 12,000." And a row has 132 cells.
+-- Document 01: "The word count is every word read; a row reads fewer than 12,000." "Row chains may loop: the lines run out." And a row
+-- has 132 cells.
 use mathlib.Core.Path.{_≡_, refl, _∙_}
 use mathlib.Core.Bool.{_&&_}
 use mathlib.Core.List.{List}
@@ -17,14 +18,18 @@ use Rattle.plan.proofs.PlanBounds.{plan-reads}
 use Rattle.cells.specs.Cells.{blank}
 use Rattle.cells.proofs.CellBounds.{cells-read}
 
+-- 132 cells, and fewer lines left
+abbrev pub Drawn : State → Row → Type 0
+Drawn s r = (length (r .drawing .cells) ≡ 132) × (r .next .left < s .fields .left)
+
 -- a row: 167 words of blocks, 30 segments of 384, and 3 fill runs
-pub row-reads : (σ : Settings) (s : State) → Reads (λ r. length (r .drawing .cells) ≡ 132) 11690 (row σ s)
+pub row-reads : (σ : Settings) (s : State) → Reads (Drawn s) 11690 (row σ s)
 unfolding row
 row-reads σ s =
     bind {n = 167} {k = 11523} (lit≤ tt) (plan-reads σ (s .fields)) λ p hp.
     bind {n = 11523} {k = 0} (lit≤ tt)
     (cells-read σ (s .fields .fill) (p .overlay) (p .segments) (blank (s .latch)) (hp .few) (hp .narrow) (hp .inside) (hp .edges) (refl, refl)) λ d h.
-    dones (omega (arith, h .0, h .1))
+    dones (omega (arith, h .0, h .1), hp .fewer)
 
 -- the cursor's mark adds no cell
 pub cursor-length : (σ : Settings) (f : Fields) (cs : List ℕ) → length (withCursor σ f cs) ≡ length cs
@@ -32,19 +37,23 @@ unfolding withCursor
 cursor-length σ f cs =
     if-cases (λ (r : List ℕ). length r ≡ length cs) (σ .cursor && eqb (f .cursor .y) (f .row)) (λ _. simp length-set) (λ _. refl)
 
-answered-length : (σ : Settings) (f : Fields) (buffer : List ℕ) {t : ℕ} {o : Outcome Row} → length buffer ≡ 132
-    → Within (λ r. length (r .drawing .cells) ≡ 132) t o → length (answered σ f buffer o .buffer) ≡ 132
-answered-length σ f buffer l (given-within {a = r} _ h) = cursor-length σ f (r .drawing .cells) ∙ h
-answered-length σ f buffer l refused-within = l
+answered-length : (σ : Settings) (s : State) (buffer : List ℕ) {t : ℕ} {o : Outcome Row} → length buffer ≡ 132
+    → Within (Drawn s) t o → length (answered σ (s .fields) buffer o .buffer) ≡ 132
+answered-length σ s buffer l (given-within {a = r} _ h) = cursor-length σ (s .fields) (r .drawing .cells) ∙ h .0
+answered-length σ s buffer l refused-within = l
 
 -- on a memory of 16-bit words
 module _ (σ : Settings) (m : List ℕ) (b : Words m) (s : State) where
   pub row-bound : (n : ℕ) (r : Row) → run m (row σ s) ≡ given n r → (n < 12000) × (length (r .drawing .cells) ≡ 132)
-  row-bound n r e = let k = reads-given 0 m b (row-reads σ s) e in (omega arith, k .1)
+  row-bound n r e = let k = reads-given 0 m b (row-reads σ s) e in (omega arith, k .1 .0)
+
+  -- an accepted row leaves fewer lines than it found, whatever its block links to
+  pub lines-run-out : (n : ℕ) (r : Row) → run m (row σ s) ≡ given n r → r .next .left < s .fields .left
+  lines-run-out n r e = reads-given 0 m b (row-reads σ s) e .1 .1
 
   -- a row buffer of 132 cells has 132 after the call, accepted or refused
   pub buffer-length : (buffer : List ℕ) → length buffer ≡ 132 → length (rowCall σ m s buffer .buffer) ≡ 132
   unfolding rowCall
   buffer-length buffer l =
       if-cases (λ (c : Called). length (c .buffer) ≡ 132) (eqb (length buffer) 132)
-      (λ _. answered-length σ (s .fields) buffer l (run-reads 0 m b (le-refl 11690) (row-reads σ s))) (λ _. l)
+      (λ _. answered-length σ s buffer l (run-reads 0 m b (le-refl 11690) (row-reads σ s))) (λ _. l)

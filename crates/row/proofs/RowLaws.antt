@@ -27,14 +27,14 @@ inside : (hidden : Bool) (o : Overlay) → Bounds.Inside hidden o → Inside hid
 inside hidden none h = lit≤ tt
 inside hidden (over first end ws) h = (h .1, h .2)
 
-drawable : (hidden : Bool) (p : Plan) → Bounds.Sound hidden p → Drawable hidden (p .overlay) (p .segments)
-drawable hidden p s = record { narrow = s .narrow; inside = inside hidden (p .overlay) (s .inside); edges = s .edges }
+drawable : (hidden : Bool) (f : Fields) (p : Plan) → Bounds.Sound hidden f p → Drawable hidden (p .overlay) (p .segments)
+drawable hidden f p s = record { narrow = s .narrow; inside = inside hidden (p .overlay) (s .inside); edges = s .edges }
 
 -- what a row's plan, once given, lets the cells rely on
 pub plan-drawable : (σ : Settings) (m : List ℕ) → Words m → (f : Fields) {n : ℕ} {p : Plan} → given n p ≡ run m (plan σ f)
     → Drawable (σ .hidden) (p .overlay) (p .segments) × (n ≤ 1000)
 plan-drawable σ m b f {p = p} e =
-    let k = reads-given 0 m b (Bounds.plan-reads σ f) (sym e) in (drawable (σ .hidden) p (k .1), omega (arith, k .0))
+    let k = reads-given 0 m b (Bounds.plan-reads σ f) (sym e) in (drawable (σ .hidden) f p (k .1), omega (arith, k .0))
 
 -- a row is refused as its plan is
 pub plan-refused : (σ : Settings) (m : List ℕ) (s : State) {i a : ℕ} → refused i a ≡ run m (plan σ (s .fields)) → refused i a ≡ run m (row σ s)
