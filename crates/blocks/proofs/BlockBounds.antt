@@ -17,7 +17,7 @@ use Rattle.blocks.specs.declared.RowFormat.{RowFormat}
 use Rattle.blocks.specs.declared.Window.{Window}
 use Rattle.blocks.specs.declared.WindowInHand.{WindowInHand}
 use Rattle.blocks.specs.declared.WindowInHand.the-variants.{Absent, Present}
-use Rattle.blocks.specs.Main.{at, mainBlockAt}
+use Rattle.blocks.specs.Main.{at}
 use Rattle.blocks.specs.RowBlock.{formatOf, null, segmentOf, segmentsOf, restOfBlock, blockAt, rowBlockAt, windowRowAt, redefined}
 use Rattle.blocks.specs.Window.{windowOf, inOrder, windowAt, dueWindow}
 
@@ -68,11 +68,7 @@ pub window-row-reads : (linear : Bool) (a : ℕ) → Reads (λ b. Few 15 (b .seg
 unfolding windowRowAt
 window-row-reads linear a = block-reads linear false a
 
--- ---- main blocks and redefinitions ----
-pub main-block-reads : (linear : Bool) (a : ℕ) → Reads (λ _. Unit {0}) 7 (mainBlockAt linear a)
-unfolding mainBlockAt
-main-block-reads linear a = bind {n = 7} {k = 0} (omega arith) (words-read linear 7 a) λ _ _. dones tt
-
+-- ---- redefinitions ----
 -- a row that has a scan line has one redefined
 pub redefined-reads : (linear : Bool) (a : ℕ) (format : RowFormat)
     → Reads (λ t. 1 ≤ format .lines → 1 ≤ t .lines) 3 (redefined linear a format)

@@ -5,7 +5,7 @@ use mathlib.Core.Bool.{Bool, true, false}
 use Prim.Native.Nat.{ℕ, zero, suc, _+_, _-_, _*_, _%_, _<_, _≤_}
 use native.Mathlib.Nat.{add-zero}
 use native.Mathlib.Omega.{arith}
-use lib.ListN.{length, getD, drop, length-drop, List·getD-append}
+use lib.ListN.{length, drop, length-drop, List·getD-append}
 use lib.Seq.{drop-append-le, drop-drop, getD-drop}
 use Rattle.memory.specs.Word.{high, low}
 use Rattle.memory.specs.declared.WordsRead.{WordsRead}
@@ -15,7 +15,7 @@ use Rattle.memory.specs.Address.{pointer, ahead, words, wordsRead}
 use Rattle.memory.proofs.Laws.{step-given, step-refused, run-done}
 use Rattle.memory.proofs.WordLaws.{read-whole, read-missing}
 use Rattle.blocks.specs.Main.{at}
-use Rattle.blocks.specs.RowBlock.{RowBlock, segmentOf, segmentsOf, segmentsFrom, restOfBlock}
+use Rattle.blocks.specs.RowBlock.{segmentOf, segmentsOf, segmentsFrom, restOfBlock}
 
 segment-prefix : (l : Bool) (ys zs : List ℕ) → 5 ≤ length ys → segmentOf l (ys ++ zs) ≡ segmentOf l ys
 unfolding segmentOf

@@ -25,7 +25,7 @@ use Rattle.cells.specs.declared.Drawn.{Drawn}
 use Rattle.cells.specs.declared.Drawn.the-variants.{Went, Refused}
 use Rattle.cells.specs.Attribute.{invokes, latches, ignores, cell}
 use Rattle.cells.specs.Cells.{Drawing, drawing, movedTo, taking, put, character, examine, wordCodes, codes, filled, fillByWord, fillTo}
-use Rattle.cells.specs.Drawn.{soFar, Within, Reached}
+use Rattle.cells.specs.Drawn.{soFar, Reached}
 
 -- ---- cells in an array ----
 
@@ -61,10 +61,6 @@ filled-run fill end p cs cs′ l e =
     ap₂ (λ (c : ℕ) (xs : List ℕ). drawing (movedTo c p) xs) k e
 
 -- ---- answers ----
-pub within-more : (end k l : ℕ) (r : Drawn) → Within end k r → k ≤ l → Within end l r
-within-more end k l (Went p n) h i = (h .0, omega arith)
-within-more end k l (Refused n a) h i = (zero-le, zero-le)
-
 pub reached-more : (end k l : ℕ) (r : Drawn) → Reached end k r → k ≤ l → Reached end l r
 reached-more end k l (Went p n) h i = (h .0, omega arith)
 reached-more end k l (Refused n a) h i = (zero-le, zero-le)

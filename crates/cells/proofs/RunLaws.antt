@@ -30,7 +30,7 @@ use Rattle.cells.proofs.CellLaws.{character-put, character-out, examine
 -- ---- one character ----
 
 -- a cell is its attribute's bits and its code
-pub cell-code : (source : Source) (a code : ℕ) → cell source a 0 + code ≡ cell source a code
+cell-code : (source : Source) (a code : ℕ) → cell source a 0 + code ≡ cell source a code
 unfolding cell
 cell-code source a code = omega arith
 
@@ -45,7 +45,7 @@ limit-test : (shown : Bool) (column end : ℕ) → ltb column (if shown then end
 limit-test true column end = refl
 limit-test false column end = leb·suc-zero column
 
-pub limit-least : (shown : Bool) (end : ℕ) → (if shown then end else 0) ≤ end
+limit-least : (shown : Bool) (end : ℕ) → (if shown then end else 0) ≤ end
 limit-least true end = omega arith
 limit-least false end = omega arith
 

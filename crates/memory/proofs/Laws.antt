@@ -74,17 +74,6 @@ module _ {A : Type 0} (n : ℕ) (m : List ℕ) (i : ℕ) (b : Bool) (k : Unit {0
   unfolding _>>=_ runFrom
   check-failed e = rw e
 
--- a list of readings: its head, then the rest
-pub each-none : {A B C : Type 0} (n : ℕ) (m : List ℕ) (f : A → B → Reading B) (b : B) (k : B → Reading C)
-    → runFrom n m (each f [] b >>= k) ≡ runFrom n m (k b)
-unfolding each _>>=_
-each-none n m f b k = refl
-
-pub each-more : {A B C : Type 0} (n : ℕ) (m : List ℕ) (f : A → B → Reading B) (x : A) (xs : List A) (b : B) (k : B → Reading C)
-    → runFrom n m (each f (x ∷ xs) b >>= k) ≡ runFrom n m (f x b >>= λ c. each f xs c >>= k)
-unfolding each
-each-more n m f x xs b k = bind-bind n m (f x b) (each f xs) k
-
 -- what `word_at` says, of a reading that asks there
 if-word : {A : Type 0} (b : Bool) (v x : ℕ) (y : ℕ → Outcome A) (z : Outcome A)
     → (if b then Word v else Absent) ≡ Word x → (if b then y v else z) ≡ y x

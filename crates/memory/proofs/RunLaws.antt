@@ -57,19 +57,6 @@ module _ (len a k : ℕ) where
       let p = leb-true (a / 2 % 32768 + k) 32768 (both (leb (a / 2 + k) len) _ h .1) in
       ahead-paged j a ∙ omega arith
 
-  pub run-shorter : (l : Bool) (j : ℕ) → isRun l len a k ≡ true → j ≤ k → isRun l len a j ≡ true
-  unfolding isRun
-  run-shorter true j h i =
-      let t = both (leb (a / 2 + k) len) _ h in
-      let p = leb-true (a / 2 + k) len (t .0) in
-      let q = leb-true (a / 2 + k) 8388608 (t .1) in
-      rw (le-leb (a / 2 + j) len (omega arith), le-leb (a / 2 + j) 8388608 (omega arith))
-  run-shorter false j h i =
-      let t = both (leb (a / 2 + k) len) _ h in
-      let p = leb-true (a / 2 + k) len (t .0) in
-      let q = leb-true (a / 2 % 32768 + k) 32768 (t .1) in
-      rw (le-leb (a / 2 + j) len (omega arith), le-leb (a / 2 % 32768 + j) 32768 (omega arith))
-
 -- the words of a run are there
 pub run-fetch : (l : Bool) (m : List ℕ) (a k j : ℕ) → isRun l (length m) a k ≡ true → j < k
     → fetch m (ahead l j a) ≡ Word (getD m (a / 2 + j) 0)

@@ -35,12 +35,6 @@ module _ (n : ℕ) (m : List ℕ) (l : Bool) (left a : ℕ) {A : Type 0} (k : Li
   unfolding _>>=_
   words-absent h e = ap (λ (p : Reading (List ℕ)). runFrom n m (p >>= k)) (words-turn h) ∙ ask-absent n m a _ e
 
-pub ahead-turn : (l : Bool) (left a : ℕ) → 0 < left → ahead l left a ≡ ahead l (left - 1) (nextWord l a)
-unfolding ahead
-ahead-turn l left a h =
-    let e : left ≡ suc (left - 1) = omega arith in
-    ap (λ (i : ℕ). ahead l i a) e
-
 pub ahead-none : (l : Bool) (left a : ℕ) → left ≡ 0 → ahead l left a ≡ a
 unfolding ahead
 ahead-none l left a e = ap (λ (i : ℕ). ahead l i a) e

@@ -1,4 +1,4 @@
-use mathlib.Core.Path.{_≡_, sym, ap, _∙_}
+use mathlib.Core.Path.{sym, ap, _∙_}
 use Rattle.memory.specs.Reading.{given}
 use Rattle.memory.proofs.Laws.{step-given, step-refused, run-done}
 use Rattle.memory.proofs.WordLaws.{read-whole, read-missing}

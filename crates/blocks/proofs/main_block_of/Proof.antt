@@ -1,4 +1,3 @@
-use mathlib.Core.Path.{_≡_}
 use Rattle.blocks.specs.Main.{mainBlock}
 use borrow.Author.Needs.{needs}
 use Rattle.blocks.proofs.main_block_of.Statement.{statement}

@@ -1,5 +1,3 @@
-use mathlib.Core.Bool.{_&&_}
-use mathlib.Core.Path.{ap}
 use borrow.Author.Needs.{needs}
 use Rattle.blocks.proofs.may_follow.Statement.{statement}
 use Rattle.blocks.proofs.may_follow.Tie as tie

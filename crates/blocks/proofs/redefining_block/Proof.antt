@@ -1,4 +1,4 @@
-use mathlib.Core.Path.{_≡_, sym, _∙_}
+use mathlib.Core.Path.{sym, _∙_}
 use Rattle.memory.proofs.Laws.{step-given, step-refused}
 use Rattle.memory.proofs.WordLaws.{read-whole, read-missing}
 use Rattle.blocks.specs.RowBlock.{restOfBlock}
