@@ -7,7 +7,7 @@ use crate::encode;
 use effect::Applied;
 use effect::Effect;
 use effect::NextFields;
-use plan::State;
+use state::State;
 use settings::Settings;
 ghost use mathlib.Core.Path.{_≡_};
 ghost use lib.ListN.{length};

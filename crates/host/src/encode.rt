@@ -4,7 +4,7 @@ use blocks::WindowInHand;
 use effect::Effect;
 use effect::Part;
 use memory::Refusal;
-use plan::State;
+use state::State;
 use row::DrawnRow;
 use settings::Sheet;
 ghost use mathlib.Core.Path.{_≡_};

@@ -3,7 +3,7 @@
 // a number that no field can have. Then nothing is written.
 use crate::decode::SettingsIn;
 use crate::decode::StateIn;
-use plan::State;
+use state::State;
 use row::RowAnswer;
 use row::StartAnswer;
 use settings::Settings;
