@@ -1,4 +1,5 @@
 -- The code's two cases are the definition's: below 10 a decimal digit, from 10 on a capital letter.
+use native.Mathlib.Omega.{arith}
 use borrow.Author.Tests.{lt-ltb, le-ltb}
 use borrow.Author.Needs.{needs}
 use Rattle.lines.proofs.digit.Statement.{statement}
@@ -8,7 +9,7 @@ returns : tie.Need-returns
 returns c = rw (lt-ltb _ 10 (c .if1 .taken))
 
 returns-2 : tie.Need-returns-2
-returns-2 c = rw (le-ltb _ 10 (c .if1 .left))
+returns-2 c = rw (le-ltb _ 10 (c .if1 .left)) (omega arith)
 
 pub digit-spec : {M : Type 1} → statement M
 digit-spec =
