@@ -18,8 +18,8 @@ returns-2 c =
       c .before .before .before .before .before .before .before .before .before .before .d .given .1,
       ← c .before .before .before .before .before .before .before .before .effect-in2 .ensures,
       c .before .before .before .before .before .before .e .given .1,
-      ← c .before .before .before .before .join .ensures,
       c .before .before .write-effect .ensures,
+      c .before .before .before .before .join .ensures,
     )
 
 returns-3 : tie.Need-returns-3
