@@ -20,12 +20,12 @@ use Rattle.blocks.proofs.BlockBounds.{Short, Few}
 use Rattle.cells.specs.declared.Source.{Source}
 use Rattle.cells.specs.declared.Source.the-variants.{Background, Window}
 use Rattle.cells.specs.Attribute.{invokes, latches, ignores, cell}
-use Rattle.plan.specs.Layout.{width, total, boundary, Overlay, none, over, edgesFit, segmentsOn}
-use Rattle.plan.specs.declared.Side.the-variants.{Before, After}
+use Rattle.layout.specs.Layout.{width, total, boundary, Overlay, none, over, edgesFit, segmentsOn}
+use Rattle.layout.specs.declared.Side.the-variants.{Before, After}
 use Rattle.cells.specs.Cells.{Drawing, drawing, listAt, noList, withList, taking, put, character, examine, wordCodes, codes, codeCount}
 use Rattle.cells.specs.Cells.{filled, fillByWord, fillTo, segment, segmentsTo, rowCells}
-use Rattle.plan.proofs.LayoutLaws.{clear, before-total, after-total, sides-length, side-short}
-use Rattle.plan.proofs.PlanBounds.{Inside}
+use Rattle.layout.proofs.LayoutLaws.{clear, before-total, after-total, sides-length, side-short}
+use Rattle.layout.proofs.OverlayBounds.{Inside}
 
 -- as many cells as the pen's column says
 abbrev pub Even : Drawing → Type 0

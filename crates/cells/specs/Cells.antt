@@ -15,9 +15,9 @@ use Rattle.cells.specs.declared.Source.{Source}
 use Rattle.cells.specs.declared.Source.the-variants.{Fill, Background, Window}
 use Rattle.cells.specs.declared.AttributeList.{AttributeList}
 use Rattle.cells.specs.declared.Pen.{Pen}
-use Rattle.plan.specs.declared.Side.the-variants.{Before, After}
+use Rattle.layout.specs.declared.Side.the-variants.{Before, After}
 use Rattle.cells.specs.Attribute.{invokes, latches, ignores, cell}
-use Rattle.plan.specs.Layout.{width, Overlay, none, over, segmentsOn}
+use Rattle.layout.specs.Layout.{width, Overlay, none, over, segmentsOn}
 
 -- a row in the making: where drawing stands, and the cells so far
 pub record Drawing : Type 0 where

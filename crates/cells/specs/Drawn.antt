@@ -6,7 +6,7 @@ use mathlib.Core.List.{List}
 use lib.ListN.{take}
 use Rattle.memory.specs.Reading.{Outcome, given, refused}
 use Rattle.blocks.specs.declared.Segment.{Segment}
-use Rattle.plan.specs.Layout.{total, Overlay, none, over, edgesFit}
+use Rattle.layout.specs.Layout.{total, Overlay, none, over, edgesFit}
 use Rattle.cells.specs.declared.Pen.{Pen}
 use Rattle.cells.specs.declared.Drawn.{Drawn}
 use Rattle.cells.specs.declared.Drawn.the-variants.{Went, Refused}

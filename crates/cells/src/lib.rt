@@ -1,9 +1,8 @@
 // The cells of a row, drawn left to right.
 use blocks::FillMode;
 use blocks::Segment;
-use plan::OverlayHead;
-use plan::Side;
-use plan::layout;
+use layout::OverlayHead;
+use layout::Side;
 use settings::Settings;
 ghost use mathlib.Core.Path.{_≡_};
 ghost use Prim.Native.Nat.{_+_, _*_, _≤_};
@@ -11,8 +10,8 @@ ghost use lib.ListN.{length};
 ghost use Rattle.memory.specs.Word.{if_then_else_};
 ghost use Rattle.memory.specs.Reading.{done, each, runFrom};
 ghost use Rattle.blocks.specs.RowBlock.{segmentsOf};
-ghost use Rattle.plan.specs.Layout.{width, total, over, segmentsOn};
-ghost use Rattle.plan.specs.Plan.{overlayOf};
+ghost use Rattle.layout.specs.Layout.{width, total, over, segmentsOn};
+ghost use Rattle.layout.specs.Answers.{overlayOf};
 ghost use Rattle.cells.specs.Cells.{codeCount, segment, segmentsTo, rowCells, blank};
 ghost use Rattle.cells.specs.Drawn.{soFar, drawn, finish, finished, Reached, Drawable};
 

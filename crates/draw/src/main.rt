@@ -2,7 +2,7 @@
 use libc::STDIN_FILENO;
 use libc::STDOUT_FILENO;
 use memory::Refusal;
-use plan::State;
+use state::State;
 use row::DrawnRow;
 use row::RowAnswer;
 use row::StartAnswer;

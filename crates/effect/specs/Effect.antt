@@ -5,8 +5,8 @@ use mathlib.Core.List.{List}
 use Rattle.memory.specs.Word.{if_then_else_}
 use Rattle.memory.specs.Reading.{Outcome, given, refused, run}
 use Rattle.settings.specs.declared.Settings.{Settings}
-use Rattle.plan.specs.declared.Fields.{Fields}
-use Rattle.plan.specs.State.{stateOf, refusal}
+use Rattle.state.specs.declared.Fields.{Fields}
+use Rattle.state.specs.State.{stateOf, refusal}
 use Rattle.row.specs.Row.{Row, row}
 use Rattle.cells.specs.declared.CellsDrawn.{CellsDrawn}
 use Rattle.cells.specs.declared.CellsDrawn.the-variants as Cells

@@ -2,14 +2,15 @@
 use cells::CellsDrawn;
 use follow::Followed;
 use memory::Refusal;
-use plan::Fields;
+use state::Fields;
 use plan::PlanAnswer;
 use plan::PlanHead;
 use settings::Settings;
 ghost use mathlib.Core.Path.{_≡_};
 ghost use Rattle.memory.specs.Reading.{given, run};
-ghost use Rattle.plan.specs.Plan.{planOf, plan};
-ghost use Rattle.plan.specs.State.{stateOf};
+ghost use Rattle.plan.specs.Plan.{plan};
+ghost use Rattle.plan.specs.Answers.{planOf};
+ghost use Rattle.state.specs.State.{stateOf};
 ghost use Rattle.row.specs.Row.{row};
 ghost use Rattle.effect.specs.declared.NextFields.{NextFields};
 ghost use Rattle.effect.specs.Join.{partFor, setThen, joinPart, join, apply};

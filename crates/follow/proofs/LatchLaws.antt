@@ -18,7 +18,7 @@ use Rattle.settings.specs.declared.Settings.{Settings}
 use Rattle.blocks.specs.declared.FillMode.{FillMode}
 use Rattle.blocks.specs.declared.Segment.{Segment}
 use Rattle.blocks.specs.RowBlock.{null}
-use Rattle.plan.specs.Layout.{width, Overlay, none, over}
+use Rattle.layout.specs.Layout.{width, Overlay, none, over}
 use Rattle.cells.specs.declared.Source.{Source}
 use Rattle.cells.specs.declared.Source.the-variants.{Background, Window}
 use Rattle.cells.specs.declared.AttributeList.{AttributeList}

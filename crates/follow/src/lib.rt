@@ -1,15 +1,14 @@
 // What a row does to the latch, followed without cells, where no fill run takes a word and every word is there.
 use blocks::FillMode;
 use blocks::Segment;
-use plan::OverlayHead;
-use plan::Side;
-use plan::layout;
+use layout::OverlayHead;
+use layout::Side;
 use settings::Settings;
 ghost use mathlib.Core.Path.{_≡_};
 ghost use Rattle.memory.specs.Word.{if_then_else_};
 ghost use Rattle.blocks.specs.RowBlock.{segmentsOf};
-ghost use Rattle.plan.specs.Layout.{segmentsOn};
-ghost use Rattle.plan.specs.Plan.{overlayOf};
+ghost use Rattle.layout.specs.Layout.{segmentsOn};
+ghost use Rattle.layout.specs.Answers.{overlayOf};
 ghost use Rattle.follow.specs.declared.Followed.the-variants.{Kept};
 ghost use Rattle.follow.specs.Follow.{join, overSegment, overSegments, overRow, AsDrawn};
 

@@ -21,16 +21,17 @@ use Rattle.blocks.specs.declared.WindowInHand.the-variants.{Absent, Present}
 use Rattle.blocks.specs.Main.{mainBlock, mainBlockAt}
 use Rattle.blocks.specs.RowBlock.{segmentOf, segmentsOf, restOfBlock, blockAt, rowBlockAt, windowRowAt, formatOf, redefined}
 use Rattle.blocks.specs.Window as W
-use Rattle.plan.specs.declared.Fields.{Fields}
-use Rattle.plan.specs.declared.State.{State}
+use Rattle.state.specs.declared.Fields.{Fields}
+use Rattle.state.specs.declared.State.{State}
 use Rattle.row.specs.declared.StartAnswer.{StartAnswer}
 use Rattle.row.specs.declared.StartAnswer.the-variants as Start
 use Rattle.row.specs.declared.RowAnswer.{RowAnswer}
 use Rattle.row.specs.declared.RowAnswer.the-variants as Answer
-use Rattle.plan.specs.State as S
+use Rattle.state.specs.State as S
 use Rattle.cells.specs.Attribute.{invokes, sourceNumber, cell}
-use Rattle.plan.specs.Layout.{width, total, allFit, boundary, edgesFit, covered, onSide, segmentsOn}
-use Rattle.plan.specs.Plan.{windowRow, overlaid, nextFields, backgroundRow, plan}
+use Rattle.layout.specs.Layout.{width, total, allFit, boundary, edgesFit, covered, onSide, segmentsOn}
+use Rattle.layout.specs.Overlay.{windowRow, overlaid}
+use Rattle.plan.specs.Plan.{nextFields, backgroundRow, plan}
 use Rattle.cells.specs.Cells.{taking, put, character, examine, wordCodes, codes, filled, fillByWord, fillTo, segment, segmentsTo, rowCells}
 use Rattle.row.specs.Row.{Called, row, withCursor, rowCall}
 use Rattle.row.specs.Start.{firstFields, windowStart, startFrom, startCall}

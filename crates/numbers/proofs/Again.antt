@@ -6,7 +6,7 @@ use Prim.Native.Nat.{ℕ}
 use borrow.Author.Tests.{ne-eqb}
 use Rattle.blocks.specs.declared.WindowInHand.{WindowInHand}
 use Rattle.blocks.specs.declared.WindowInHand.the-variants.{Absent, Present}
-use Rattle.plan.specs.declared.State.{State}
+use Rattle.state.specs.declared.State.{State}
 use Rattle.effect.specs.declared.Part.{Part}
 use Rattle.effect.specs.declared.Part.the-variants.{Keep, Set, Refuse}
 use Rattle.effect.specs.declared.Effect.{Effect}

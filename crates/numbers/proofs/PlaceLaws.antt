@@ -11,7 +11,7 @@ use lib.Seq.{drop-cons, getD-drop, drop-drop}
 use lib.Dec.{leb}
 use borrow.Author.Tests.{le-leb, lt-leb, leb-true}
 use Rattle.memory.specs.Word.{if_then_else_}
-use Rattle.plan.specs.declared.State.{State}
+use Rattle.state.specs.declared.State.{State}
 use Rattle.numbers.specs.declared.decode.StateIn.the-variants.{Fit, Unfit}
 use Rattle.numbers.specs.Places.{within, Below, Within, stateLimits}
 use Rattle.numbers.specs.Decode.{stateAt, stateIn}

@@ -1,50 +1,30 @@
 -- What the plan of a row comes to: a law for each way through its definitions, from what the readings in it come to.
 use mathlib.Core.Path.{_≡_, _∙_}
-use mathlib.Core.Bool.{Bool, true, false, not}
+use mathlib.Core.Bool.{true, false}
 use mathlib.Core.List.{List}
-use Prim.Native.Nat.{ℕ, _+_, _-_, _<_, _≤_}
+use Prim.Native.Nat.{ℕ, _+_, _<_, _≤_}
 use native.Mathlib.Omega.{arith}
-use lib.Dec.{ltb, leb}
-use borrow.Author.Tests.{lt-ltb, le-ltb, le-leb, lt-leb, not-true, not-false}
-use Rattle.memory.specs.Reading.{Reading, done, _>>_, check, given, refused, runFrom, run}
+use lib.Dec.{ltb}
+use borrow.Author.Tests.{lt-ltb, le-ltb}
+use Rattle.memory.specs.Reading.{done, _>>_, check, given, refused, runFrom, run}
 use Rattle.memory.proofs.Laws.{bind-given, bind-refused, step-given, step-refused, check-passed, check-failed, run-done}
 use Rattle.memory.proofs.ReadBounds.{Words, reads-given}
 use Rattle.settings.specs.declared.Settings.{Settings}
 use Rattle.settings.specs.Good.{good}
-use Rattle.blocks.specs.declared.Segment.{Segment}
 use Rattle.blocks.specs.declared.RowFormat.{RowFormat}
-use Rattle.blocks.specs.declared.Window.{Window}
 use Rattle.blocks.specs.declared.WindowInHand.{WindowInHand}
-use Rattle.blocks.specs.declared.WindowInHand.the-variants.{Present}
-use Rattle.blocks.specs.RowBlock.{RowBlock, rowBlockAt, windowRowAt, redefined}
+use Rattle.blocks.specs.RowBlock.{RowBlock, rowBlockAt, redefined}
 use Rattle.blocks.specs.Window.{dueWindow}
 use Rattle.blocks.proofs.BlockBounds.{row-block-reads, redefined-reads, due-reads}
-use Rattle.plan.specs.declared.Fields.{Fields}
-use Rattle.plan.specs.declared.layout.Measure.{Measure}
-use Rattle.plan.specs.State.{inRange}
-use Rattle.plan.specs.Layout.{total, allFit, measured, over, edgesFit}
-use Rattle.plan.specs.Plan.{Overlaid, withRows, windowRow, overlaid, BackgroundRow, backgroundRow, planned, fromBlocks, plan}
-use Rattle.plan.proofs.PlanBounds.{placed, background-reads, overlaid-reads}
-
--- checks 9 and then k, 10 or 11, on a row's segments; what they come to, from the segments' measure
-abbrev judged : {A : Type 0} → Bool → List Segment → ℕ → ℕ → A → Reading A
-judged hidden gs k limit a = check 9 (allFit gs) >> (check k (leb (total hidden gs) limit) >> done a)
-
-module _ (w : ℕ) (m : List ℕ) (hidden : Bool) (gs : List Segment) (k limit : ℕ) {A : Type 0} (a : A) (x : Measure)
-    (e : x ≡ measured hidden gs) where
-  pub segments-unfit : not (x .fit) ≡ true → runFrom w m (judged hidden gs k limit a) ≡ refused 9 0
-  segments-unfit h = check-failed w m 9 (allFit gs) _ (not-true (allFit gs) (rw e at h))
-
-  module _ (h : not (x .fit) ≡ false) where
-    pub segments-wide : limit < x .width → runFrom w m (judged hidden gs k limit a) ≡ refused k 0
-    segments-wide l =
-        check-passed w m 9 (allFit gs) _ (not-false (allFit gs) (rw e at h))
-        ∙ check-failed w m k (leb (total hidden gs) limit) _ (lt-leb (total hidden gs) limit (rw e at l))
-
-    pub segments-pass : x .width ≤ limit → runFrom w m (judged hidden gs k limit a) ≡ given w a
-    segments-pass l =
-        check-passed w m 9 (allFit gs) _ (not-false (allFit gs) (rw e at h))
-        ∙ check-passed w m k (leb (total hidden gs) limit) _ (le-leb (total hidden gs) limit (rw e at l)) ∙ run-done w m a
+use Rattle.state.specs.declared.Fields.{Fields}
+use Rattle.state.specs.State.{inRange}
+use Rattle.state.proofs.StateLaws.{placed}
+use Rattle.layout.specs.Layout.{edgesFit}
+use Rattle.layout.specs.Overlay.{Overlaid, overlaid}
+use Rattle.layout.proofs.OverlayBounds.{overlaid-reads}
+use Rattle.layout.proofs.OverlayLaws.{judged}
+use Rattle.plan.specs.Plan.{BackgroundRow, backgroundRow, planned, fromBlocks, plan}
+use Rattle.plan.proofs.PlanBounds.{background-reads}
 
 -- the row block and its redefinition, then the checks on its segments
 module _ (m : List ℕ) (σ : Settings) (f : Fields) where
@@ -74,18 +54,6 @@ module _ (m : List ℕ) (σ : Settings) (f : Fields) where
             reads-given 0 m h (row-block-reads (σ .linear) (f .next)) e .0,
             reads-given 0 m h (redefined-reads (σ .linear) (b .redefinition) (f .format)) d .0,
           )
-
--- the window row block, then the checks on its segments
-module _ (m : List ℕ) (σ : Settings) (w : Window) where
-  pub window-missing : {n at : ℕ} → run m (windowRowAt (σ .linear) (w .rows)) ≡ refused n at → run m (windowRow σ w) ≡ refused n at
-  unfolding windowRow
-  window-missing e = bind-refused 0 m (windowRowAt (σ .linear) (w .rows)) _ e
-
-  pub window-checks : {n : ℕ} {b : RowBlock} → run m (windowRowAt (σ .linear) (w .rows)) ≡ given n b
-      → run m (windowRow σ w) ≡ runFrom n m (judged (σ .hidden) (b .segments) 11 (w .right + 1 - w .left)
-      (record { overlay = over (w .left) (w .right + 1) (b .segments); window = Present (withRows (b .link) w) }))
-  unfolding windowRow
-  window-checks e = bind-given 0 m (windowRowAt (σ .linear) (w .rows)) _ e
 
 -- the blocks of a row one after the other, then check 12
 module _ (m : List ℕ) (σ : Settings) (f : Fields) where

@@ -1,55 +1,22 @@
-// The state of a frame, and the plan of a row: what it is drawn from, before any cell.
-use crate::overlay::OverlayRead;
+// The plan of a row: what it is drawn from, before any cell.
 use blocks::BlockHead;
 use blocks::BlockRead;
-use blocks::Cursor;
-use blocks::FillMode;
 use blocks::FormatRead;
 use blocks::RowFormat;
 use blocks::WindowInHand;
 use blocks::WindowRead;
+use layout::OverlayHead;
+use layout::overlay;
+use layout::overlay::OverlayRead;
 use settings::Settings;
+use state::Fields;
 ghost use mathlib.Core.Path.{_≡_};
 ghost use mathlib.Core.Bool.{true};
 ghost use Prim.Native.Nat.{_<_};
 ghost use Rattle.memory.specs.Reading.{run};
-ghost use Rattle.plan.specs.State.{inRange};
-ghost use Rattle.plan.specs.Plan.{linesTaken, nextFields, backgroundRow, fromBlocks, plan, backgroundRead, planAnswer};
-
-pub mod layout; // the segments of a row: widths, boundaries, and the side of a window that they are on
-mod overlay; // the window on a row
-mod range; // whether a state is in range
-
-// The state's fields other than the latch: row number, lines left, cursor, fill, format (scan lines, row attributes, CURS,
-// CURE), next row block and the window in hand.
-pub struct Fields {
-    pub row: u16,
-    pub left: u16,
-    pub cursor: Cursor,
-    pub fill: FillMode,
-    pub format: RowFormat,
-    pub next: u32,
-    pub window: WindowInHand,
-}
-
-pub struct State {
-    pub latch: u16,
-    pub fields: Fields,
-}
-
-// The background segments of a row without a window; those drawn before a window, from its first column; those drawn after it,
-// from its first column and the one after its last.
-pub enum Side {
-    Whole,
-    Before(usize),
-    After(usize, usize),
-}
-
-// The window on a row but for its segments: none, or its first column, the one after its last, and the count of segments.
-pub enum OverlayHead {
-    NoOverlay,
-    Over { first: usize, end: usize, count: u8 },
-}
+ghost use Rattle.state.specs.State.{inRange};
+ghost use Rattle.plan.specs.Plan.{linesTaken, nextFields, backgroundRow, fromBlocks, plan};
+ghost use Rattle.plan.specs.Answers.{backgroundRead, planAnswer};
 
 // A row's plan but for the segments: `count` of the background's, and the words read.
 pub struct PlanHead {
@@ -85,7 +52,7 @@ pub fn plan_row(
     if !settings::is_good(settings) {
         return refused(2);
     }
-    if !range::in_range(fields) {
+    if !state::in_range(fields) {
         return refused(3);
     }
     if fields.left == 0 {

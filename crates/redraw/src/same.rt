@@ -5,7 +5,7 @@ use blocks::RowFormat;
 use blocks::Window;
 use blocks::WindowInHand;
 use memory::Refusal;
-use plan::Fields;
+use state::Fields;
 use row::DrawnRow;
 use row::RowAnswer;
 

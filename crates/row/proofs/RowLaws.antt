@@ -13,9 +13,9 @@ use Rattle.memory.specs.Reading.{Reading, given, refused, runFrom, run}
 use Rattle.memory.proofs.Laws.{bind-given, bind-refused, run-done}
 use Rattle.memory.proofs.ReadBounds.{Words, reads-given}
 use Rattle.settings.specs.declared.Settings.{Settings}
-use Rattle.plan.specs.declared.Fields.{Fields}
-use Rattle.plan.specs.declared.State.{State}
-use Rattle.plan.specs.Layout.{Overlay, none, over}
+use Rattle.state.specs.declared.Fields.{Fields}
+use Rattle.state.specs.declared.State.{State}
+use Rattle.layout.specs.Layout.{Overlay, none, over}
 use Rattle.plan.specs.Plan.{Plan, plan}
 use Rattle.plan.proofs.PlanBounds as Bounds
 use Rattle.cells.specs.Cells.{Drawing, blank, rowCells}

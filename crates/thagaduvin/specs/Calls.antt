@@ -10,7 +10,7 @@ use Rattle.settings.specs.declared.Settings.{Settings}
 use Rattle.settings.specs.declared.SheetAnswer.{SheetAnswer}
 use Rattle.settings.specs.declared.SheetAnswer.the-variants as Sheet
 use Rattle.settings.specs.Sheet.{sheetCall}
-use Rattle.plan.specs.declared.State.{State}
+use Rattle.state.specs.declared.State.{State}
 use Rattle.row.specs.declared.StartAnswer.{StartAnswer}
 use Rattle.row.specs.declared.StartAnswer.the-variants as Start
 use Rattle.row.specs.declared.RowAnswer.{RowAnswer}

@@ -5,7 +5,7 @@ use lib.ListN.{length}
 use lib.Dec.{eqb}
 use Rattle.memory.specs.Word.{if_then_else_}
 use Rattle.settings.specs.declared.Settings.{Settings}
-use Rattle.plan.specs.State.{stateOf}
+use Rattle.state.specs.State.{stateOf}
 use Rattle.effect.specs.declared.Applied.{Applied}
 use Rattle.effect.specs.declared.Applied.the-variants as Applied
 use Rattle.effect.specs.declared.Effect.{Effect}

@@ -5,7 +5,7 @@ ghost use lib.ListN.{length, take};
 ghost use Rattle.io.specs.Counts.{Counts};
 use libc::STDOUT_FILENO;
 use memory::Refusal;
-use plan::State;
+use state::State;
 use row::DrawnRow;
 use row::RowAnswer;
 use row::StartAnswer;

@@ -5,8 +5,8 @@ use native.Mathlib.Omega.{arith}
 use lib.ListN.{length, drop}
 use Rattle.memory.specs.Reading.{each, runFrom}
 use Rattle.blocks.specs.RowBlock.{segmentsOf}
-use Rattle.plan.specs.Layout.{width, total, segmentsOn}
-use Rattle.plan.proofs.LayoutLaws.{width-byte}
+use Rattle.layout.specs.Layout.{width, total, segmentsOn}
+use Rattle.layout.proofs.LayoutLaws.{width-byte}
 use Rattle.cells.specs.Cells.{segment}
 use Rattle.cells.specs.Drawn.{soFar}
 use Rattle.cells.proofs.SideLaws.{side-total, side-none-total, side-given, side-refused, side-none}

@@ -1,6 +1,6 @@
 use mathlib.Core.Path.{sym, _∙_}
 use native.Mathlib.Omega.{arith}
-use Rattle.plan.proofs.PlanLaws.{segments-unfit, segments-wide, segments-pass}
+use Rattle.layout.proofs.OverlayLaws.{segments-unfit, segments-wide, segments-pass}
 use Rattle.plan.proofs.PlanLaws.{background-missing, format-missing, background-checks, background-words}
 use borrow.Author.Needs.{needs}
 use Rattle.plan.proofs.background_row.Statement.{statement}
