@@ -2,9 +2,9 @@
 use Prim.Native.Nat.{ℕ}
 use mathlib.Core.Bool.{Bool}
 use mathlib.Core.List.{List}
-use lib.ListN.{getD}
 use lib.Dec.{eqb}
-use Rattle.memory.specs.Word.{if_then_else_}
+use Rattle.memory.specs.Word.{if_then_else_, at}
+use Rattle.memory.specs.Address.{to}
 use Rattle.settings.specs.declared.Interlace.{Interlace}
 use Rattle.settings.specs.declared.Interlace.the-variants.{Progressive, RepeatField, Video}
 use Rattle.settings.specs.declared.Settings.{Settings}
@@ -15,7 +15,7 @@ use Rattle.blocks.specs.declared.WindowInHand.{WindowInHand}
 use Rattle.blocks.specs.declared.WindowInHand.the-variants.{Absent, Present}
 use Rattle.state.specs.declared.Fields.{Fields}
 use Rattle.state.specs.declared.State.{State}
-use Rattle.state.specs.State.{stateOf, refusal}
+use Rattle.state.specs.State.{stateOf}
 use Rattle.effect.specs.declared.Part.{Part}
 use Rattle.effect.specs.declared.Part.the-variants.{Keep, Set, Refuse}
 use Rattle.effect.specs.declared.Effect.{Effect}
@@ -26,10 +26,6 @@ use Rattle.numbers.specs.declared.decode.StateIn.the-variants as State-i
 use Rattle.numbers.specs.declared.decode.EffectIn.{EffectIn}
 use Rattle.numbers.specs.declared.decode.EffectIn.the-variants as Effect-in
 use Rattle.numbers.specs.Places.{within, settingsLimits, stateLimits, effectLimits}
-
--- the number at a place
-abbrev pub at : List ℕ → ℕ → ℕ
-at xs i = getD xs i 0
 
 -- 0 is no, 1 is yes
 abbrev pub yes : ℕ → Bool
@@ -69,7 +65,10 @@ formatAt xs = record { lines = at xs 7; attributes = at xs 8; curs = at xs 9; cu
 unfoldable pub windowAt : List ℕ → WindowInHand
 windowAt xs =
     if yes (at xs 12)
-    then Present (record { top = at xs 13; bottom = at xs 14; left = at xs 15; right = at xs 16; rows = at xs 17; link = at xs 18 })
+    then Present (record {
+      block = record { top = at xs 13; bottom = at xs 14; left = at xs 15; right = at xs 16; link = to (at xs 18) };
+      rows = to (at xs 17);
+    })
     else Absent
 
 unfoldable pub fieldsAt : List ℕ → Fields
@@ -79,7 +78,7 @@ fieldsAt xs = record {
   cursor = record { x = at xs 3; y = at xs 4 };
   fill = record { code = at xs 5; flag = yes (at xs 6) };
   format = formatAt xs;
-  next = at xs 11;
+  next = to (at xs 11);
   window = windowAt xs;
 }
 
@@ -92,7 +91,7 @@ stateIn xs = if within stateLimits xs then State-in.Fit (stateAt xs) else State-
 -- a part: a refusal where its number is not 0, else a set or a keep
 abbrev pub partAt : ℕ → ℕ → ℕ → ℕ → ℕ → Part
 partAt number row address sets word =
-    if eqb number 0 then (if yes sets then Set word else Keep) else Refuse (refusal row number address)
+    if eqb number 0 then (if yes sets then Set word else Keep) else Refuse (record { number = number; row = row; address = address })
 
 unfoldable pub effectAt : List ℕ → Effect
 effectAt xs = record {

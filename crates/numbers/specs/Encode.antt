@@ -5,6 +5,7 @@ use mathlib.Core.List.{List, [], _∷_}
 use lib.ListN.{set}
 use Rattle.memory.specs.Word.{if_then_else_}
 use Rattle.memory.specs.declared.Refusal.{Refusal}
+use Rattle.memory.specs.Address.{to}
 use Rattle.settings.specs.declared.Sheet.{Sheet}
 use Rattle.blocks.specs.declared.Window.{Window}
 use Rattle.blocks.specs.declared.WindowInHand.{WindowInHand}
@@ -26,7 +27,7 @@ isHeld Absent = false
 isHeld (Present w) = true
 
 abbrev pub held : WindowInHand → Window
-held Absent = record { top = 0; bottom = 0; left = 0; right = 0; rows = 0; link = 0 }
+held Absent = record { block = record { top = 0; bottom = 0; left = 0; right = 0; link = to 0 }; rows = to 0 }
 held (Present w) = w
 
 unfoldable pub stateNumbers : State → List ℕ
@@ -34,10 +35,10 @@ stateNumbers s =
     s .latch ∷ s .fields .row ∷ s .fields .left
     ∷ s .fields .cursor .x ∷ s .fields .cursor .y ∷ s .fields .fill .code ∷ number (s .fields .fill .flag)
     ∷ s .fields .format .lines ∷ s .fields .format .attributes ∷ s .fields .format .curs ∷ s .fields .format .cure
-    ∷ s .fields .next ∷ number (isHeld (s .fields .window))
-    ∷ held (s .fields .window) .top ∷ held (s .fields .window) .bottom
-    ∷ held (s .fields .window) .left ∷ held (s .fields .window) .right
-    ∷ held (s .fields .window) .rows ∷ held (s .fields .window) .link ∷ []
+    ∷ s .fields .next .address ∷ number (isHeld (s .fields .window))
+    ∷ held (s .fields .window) .block .top ∷ held (s .fields .window) .block .bottom
+    ∷ held (s .fields .window) .block .left ∷ held (s .fields .window) .block .right
+    ∷ held (s .fields .window) .rows .address ∷ held (s .fields .window) .block .link .address ∷ []
 
 -- An answer begins with the row and the address of a refusal; that address is 0 in an accepted call. What an accepted call gives
 -- follows.

@@ -3,9 +3,11 @@ use blocks::Cursor;
 use blocks::FillMode;
 use blocks::RowFormat;
 use blocks::Window;
+use blocks::WindowBlock;
 use blocks::WindowInHand;
 use effect::Effect;
 use effect::Part;
+use memory::Pointer;
 use memory::Refusal;
 use settings::Interlace;
 use settings::PointerWords;
@@ -194,14 +196,16 @@ fn window_at(n: &[u32]) -> WindowInHand
     ensures { λ r. ⌜ r ≡ windowAt (now (n .entry)) ⌝ }
 {
     if n[12] == 1 {
-        WindowInHand::Present(Window {
+        let link = Pointer { address: n[18] };
+        let block = WindowBlock {
             top: n[13] as u8,
             bottom: n[14] as u8,
             left: n[15] as u8,
             right: n[16] as u8,
-            rows: n[17],
-            link: n[18],
-        })
+            link,
+        };
+        let rows = Pointer { address: n[17] };
+        WindowInHand::Present(Window { block, rows })
     } else {
         WindowInHand::Absent
     }
@@ -220,6 +224,7 @@ fn fields_at(n: &[u32]) -> Fields
         flag: n[6] == 1,
     };
     let format = format_at(n);
+    let next = Pointer { address: n[11] };
     let window = window_at(n);
     Fields {
         row: n[1] as u16,
@@ -227,7 +232,7 @@ fn fields_at(n: &[u32]) -> Fields
         cursor,
         fill,
         format,
-        next: n[11],
+        next,
         window,
     }
 }

@@ -1,8 +1,10 @@
 // States, effects and answers as numbers at their places.
 use blocks::Window;
+use blocks::WindowBlock;
 use blocks::WindowInHand;
 use effect::Effect;
 use effect::Part;
+use memory::Pointer;
 use memory::Refusal;
 use row::DrawnRow;
 use settings::Sheet;
@@ -31,6 +33,7 @@ pub fn write_state(state: State, into: &mut [u32])
     let format = f.format;
     let in_hand = f.window;
     let w = held(in_hand);
+    let b = w.block;
     let flag = number(fill.flag);
     let present = number(is_held(in_hand));
     let numbers = [
@@ -45,14 +48,14 @@ pub fn write_state(state: State, into: &mut [u32])
         format.attributes as u32,
         format.curs as u32,
         format.cure as u32,
-        f.next,
+        f.next.address,
         present,
-        w.top as u32,
-        w.bottom as u32,
-        w.left as u32,
-        w.right as u32,
-        w.rows,
-        w.link,
+        b.top as u32,
+        b.bottom as u32,
+        b.left as u32,
+        b.right as u32,
+        w.rows.address,
+        b.link.address,
     ];
     write(&numbers, into);
 }
@@ -187,14 +190,17 @@ fn held(in_hand: WindowInHand) -> Window
     ensures { λ r. ⌜ r ≡ held «in_hand» ⌝ }
 {
     match in_hand {
-        WindowInHand::Absent => Window {
-            top: 0,
-            bottom: 0,
-            left: 0,
-            right: 0,
-            rows: 0,
-            link: 0,
-        },
+        WindowInHand::Absent => {
+            let null = Pointer { address: 0 };
+            let block = WindowBlock {
+                top: 0,
+                bottom: 0,
+                left: 0,
+                right: 0,
+                link: null,
+            };
+            Window { block, rows: null }
+        }
         WindowInHand::Present(w) => w,
     }
 }
