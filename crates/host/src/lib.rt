@@ -3,11 +3,11 @@
 // a number that no field can have. Then nothing is written.
 use crate::decode::SettingsIn;
 use crate::decode::StateIn;
-use state::State;
 use row::RowAnswer;
 use row::StartAnswer;
 use settings::Settings;
 use settings::SheetAnswer;
+use state::State;
 ghost use mathlib.Core.Path.{_≡_};
 ghost use lib.ListN.{length};
 ghost use Rattle.settings.specs.Sheet.{sheetCall};

@@ -5,14 +5,14 @@ use blocks::RowFormat;
 use blocks::Window;
 use blocks::WindowInHand;
 use memory::Refusal;
-use state::Fields;
-use state::State;
 use row::DrawnRow;
 use row::RowAnswer;
 use row::StartAnswer;
 use settings::Interlace;
 use settings::PointerWords;
 use settings::Settings;
+use state::Fields;
+use state::State;
 
 fn main() {
     let settings = sheet();
