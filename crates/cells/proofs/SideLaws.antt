@@ -17,7 +17,7 @@ use Rattle.layout.specs.declared.Side.{Side}
 use Rattle.layout.specs.declared.Side.the-variants.{Whole, Before, After}
 use Rattle.layout.specs.Layout.{width, total, boundary, over, edgesFit, onSide, segmentsOn}
 use Rattle.layout.proofs.LayoutLaws.{whole-all, clear, before-total, after-total}
-use Rattle.cells.specs.Drawn.{Drawable}
+use Rattle.cells.specs.Answers.{Drawable}
 
 -- of a list whose first may be left out: the sum of widths, and a reading for each
 module _ (hidden : Bool) (g : Segment) (gs : List Segment) where

@@ -2,13 +2,13 @@
 use libc::STDIN_FILENO;
 use libc::STDOUT_FILENO;
 use memory::Refusal;
-use state::State;
 use row::DrawnRow;
 use row::RowAnswer;
 use row::StartAnswer;
 use script::Script;
 use script::Step;
 use settings::Settings;
+use state::State;
 
 // Memory is 16,384 words.
 fn main() {

@@ -12,7 +12,7 @@ use Rattle.state.specs.declared.State.{State}
 use Rattle.row.specs.declared.RowAnswer.{RowAnswer}
 use Rattle.row.specs.declared.RowAnswer.the-variants.{Accepted, Refused}
 use Rattle.state.specs.State.{stateOf, refusal}
-use Rattle.cells.specs.Attribute.{ignores}
+use Rattle.codes.specs.Attribute.{ignores}
 use Rattle.plan.specs.Plan.{Plan}
 use Rattle.row.specs.Row.{Row, row, answered, rowCall}
 use Rattle.row.proofs.Alike.{kept, became, alike, EndAlike, ends, row-alike, Planned, accepts, refusing, row-planned}

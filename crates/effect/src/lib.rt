@@ -2,10 +2,10 @@
 use cells::CellsDrawn;
 use follow::Followed;
 use memory::Refusal;
-use state::Fields;
 use plan::PlanAnswer;
 use plan::PlanHead;
 use settings::Settings;
+use state::Fields;
 ghost use mathlib.Core.Path.{_≡_};
 ghost use Rattle.memory.specs.Reading.{given, run};
 ghost use Rattle.plan.specs.Plan.{plan};
@@ -187,7 +187,7 @@ fn part_of(fields: Fields, d: CellsDrawn) -> Part
             row: fields.row,
             address,
         }),
-        CellsDrawn::Went {
+        CellsDrawn::Accepted {
             latch,
             latched,
             words: _,
@@ -210,7 +210,7 @@ fn next_of(reached: Fields, d: CellsDrawn, otherwise: NextFields) -> NextFields
             number: _,
             address: _,
         } => otherwise,
-        CellsDrawn::Went {
+        CellsDrawn::Accepted {
             latch: _,
             latched: _,
             words: _,

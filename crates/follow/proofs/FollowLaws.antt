@@ -12,7 +12,7 @@ use Rattle.blocks.specs.RowBlock.{segmentOf, segmentsOf}
 use Rattle.blocks.proofs.BlockLaws.{segments-more, segments-none}
 use Rattle.layout.specs.declared.Side.{Side}
 use Rattle.layout.specs.Layout.{width, onSide, segmentsOn}
-use Rattle.cells.specs.Attribute.{latches}
+use Rattle.codes.specs.Attribute.{latches}
 use Rattle.follow.specs.declared.Followed.{Followed}
 use Rattle.follow.specs.declared.Followed.the-variants.{Kept, Latched, Unclear}
 use Rattle.follow.specs.Follow.{join, takes, invoking, lastLatched, overSegment, overSegments}

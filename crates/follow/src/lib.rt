@@ -12,7 +12,7 @@ ghost use Rattle.layout.specs.Answers.{overlayOf};
 ghost use Rattle.follow.specs.declared.Followed.the-variants.{Kept};
 ghost use Rattle.follow.specs.Follow.{join, overSegment, overSegments, overRow, AsDrawn};
 
-mod codes; // the codes of a segment, and the words of its list
+mod segment; // the codes of a segment, and the words of its list
 
 // What becomes of the latch: it is kept, or a word becomes it; or that is unclear, and the row has to be drawn.
 pub enum Followed {
@@ -85,7 +85,7 @@ fn follow_chosen(mem: &[u16], settings: Settings, chosen: bool, g: Segment) -> F
     ensures { λ r. ⌜ r ≡ (if chosen then overSegment settings (now (mem .entry)) g else Kept) ⌝ }
 {
     if chosen {
-        codes::follow_segment(mem, settings, g)
+        segment::follow_segment(mem, settings, g)
     } else {
         Followed::Kept
     }

@@ -29,11 +29,12 @@ use Rattle.row.specs.declared.StartAnswer.the-variants as Start
 use Rattle.row.specs.declared.RowAnswer.{RowAnswer}
 use Rattle.row.specs.declared.RowAnswer.the-variants as Answer
 use Rattle.state.specs.State as S
-use Rattle.cells.specs.Attribute.{invokes, sourceNumber, cell}
+use Rattle.codes.specs.Attribute.{invokes, sourceNumber, cell}
 use Rattle.layout.specs.Layout.{width, total, allFit, boundary, edgesFit, covered, onSide, segmentsOn}
 use Rattle.layout.specs.Overlay.{windowRow, overlaid}
 use Rattle.plan.specs.Plan.{nextFields, backgroundRow, plan}
-use Rattle.cells.specs.Cells.{taking, put, character, examine, wordCodes, codes, filled, fillByWord, fillTo, segment, segmentsTo, rowCells}
+use Rattle.codes.specs.Codes.{taking, put, character, examine, wordCodes, codes}
+use Rattle.cells.specs.Cells.{filled, fillByWord, fillTo, segment, segmentsTo, rowCells}
 use Rattle.row.specs.Row.{Called, row, withCursor, rowCall}
 use Rattle.row.specs.Start.{firstFields, windowStart, startFrom, startCall}
 use Rattle.effect.specs.declared.Part.{Part}

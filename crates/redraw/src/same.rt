@@ -5,9 +5,9 @@ use blocks::RowFormat;
 use blocks::Window;
 use blocks::WindowInHand;
 use memory::Refusal;
-use state::Fields;
 use row::DrawnRow;
 use row::RowAnswer;
+use state::Fields;
 
 // A row call's answer, and its row buffer after it.
 pub(crate) struct Outcome {

@@ -15,7 +15,7 @@ use Rattle.state.specs.declared.Fields.{Fields}
 use Rattle.state.specs.declared.State.{State}
 use Rattle.row.specs.Row.{Row, row, withCursor, Called, answered, rowCall}
 use Rattle.plan.proofs.PlanBounds.{plan-reads}
-use Rattle.cells.specs.Cells.{blank}
+use Rattle.codes.specs.Codes.{blank}
 use Rattle.cells.proofs.CellBounds.{cells-read}
 
 -- 132 cells, and fewer lines left

@@ -17,13 +17,15 @@ use Rattle.state.specs.declared.Fields.{Fields}
 use Rattle.state.specs.declared.State.{State}
 use Rattle.layout.specs.Layout.{Overlay, none, over}
 use Rattle.plan.specs.Plan.{Plan, plan}
+use Rattle.layout.proofs.OverlayBounds as Overlays
 use Rattle.plan.proofs.PlanBounds as Bounds
-use Rattle.cells.specs.Cells.{Drawing, blank, rowCells}
-use Rattle.cells.specs.Drawn.{Inside, Drawable}
+use Rattle.codes.specs.Codes.{Drawing, blank}
+use Rattle.cells.specs.Cells.{rowCells}
+use Rattle.cells.specs.Answers.{Inside, Drawable}
 use Rattle.row.specs.Row.{drawnBy, row}
 
 -- what a sound plan gives the cells
-inside : (hidden : Bool) (o : Overlay) → Bounds.Inside hidden o → Inside hidden o
+inside : (hidden : Bool) (o : Overlay) → Overlays.Inside hidden o → Inside hidden o
 inside hidden none h = lit≤ tt
 inside hidden (over first end ws) h = (h .1, h .2)
 

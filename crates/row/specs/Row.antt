@@ -16,7 +16,8 @@ use Rattle.row.specs.declared.RowAnswer.{RowAnswer}
 use Rattle.row.specs.declared.RowAnswer.the-variants.{Accepted, Refused}
 use Rattle.state.specs.State.{stateOf, refusal}
 use Rattle.plan.specs.Plan.{Plan, plan}
-use Rattle.cells.specs.Cells.{Drawing, blank, rowCells}
+use Rattle.codes.specs.Codes.{Drawing, blank}
+use Rattle.cells.specs.Cells.{rowCells}
 
 -- what a row comes to: its lines and format, the next state's fields, and its drawing at the end
 pub record Row : Type 0 where

@@ -6,11 +6,11 @@ use blocks::WindowInHand;
 use blocks::WindowRead;
 use cells::CellsDrawn;
 use memory::Refusal;
-use state::Fields;
 use plan::PlanAnswer;
 use plan::PlanHead;
-use state::State;
 use settings::Settings;
+use state::Fields;
+use state::State;
 ghost use mathlib.Core.Path.{_≡_};
 ghost use lib.ListN.{length};
 ghost use Rattle.memory.specs.Reading.{given, runFrom, run};
@@ -114,7 +114,7 @@ fn draw_planned(
         CellsDrawn::Refused { number, address } => {
             RowAnswer::Refused(refusal(fields.row, number, address))
         }
-        CellsDrawn::Went {
+        CellsDrawn::Accepted {
             latch,
             latched: _,
             words,

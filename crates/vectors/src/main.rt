@@ -5,12 +5,12 @@ ghost use lib.ListN.{length, take};
 ghost use Rattle.io.specs.Counts.{Counts};
 use libc::STDOUT_FILENO;
 use memory::Refusal;
-use state::State;
 use row::DrawnRow;
 use row::RowAnswer;
 use row::StartAnswer;
 use script::Step;
 use settings::Settings;
+use state::State;
 
 // How far the output agrees with the stored bytes, and whether it differs there.
 struct Place {
