@@ -4,7 +4,7 @@ use libc::STDOUT_FILENO;
 use memory::Refusal;
 use row::DrawnRow;
 use row::RowAnswer;
-use row::StartAnswer;
+use start::StartAnswer;
 use script::Script;
 use script::Step;
 use settings::Settings;
@@ -54,7 +54,7 @@ fn read_some(s: Script, mem: &mut [u16]) -> Step {
 
 // A frame: its start, then its rows.
 fn draw(settings: Settings, mem: &[u16]) {
-    match row::start(settings, mem) {
+    match start::start(settings, mem) {
         StartAnswer::Refused(refusal) => print_refusal(refusal),
         StartAnswer::Accepted(started) => {
             let state = started.state;

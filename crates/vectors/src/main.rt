@@ -7,7 +7,7 @@ use libc::STDOUT_FILENO;
 use memory::Refusal;
 use row::DrawnRow;
 use row::RowAnswer;
-use row::StartAnswer;
+use start::StartAnswer;
 use script::Step;
 use settings::Settings;
 use state::State;
@@ -146,7 +146,7 @@ fn draw_script(bytes: &[u8], want: &[u8]) -> Place {
 
 // A frame: its start, then its rows.
 fn draw(settings: Settings, mem: &[u16], want: &[u8]) -> Place {
-    match row::start(settings, mem) {
+    match start::start(settings, mem) {
         StartAnswer::Refused(refusal) => with_refusal(beginning(), refusal, want),
         StartAnswer::Accepted(started) => {
             let state = started.state;
