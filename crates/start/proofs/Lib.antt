@@ -1,1 +1,1 @@
-pub mod StartLaws
+mod StartLaws
