@@ -4,10 +4,10 @@ use libc::STDOUT_FILENO;
 use memory::Refusal;
 use row::DrawnRow;
 use row::RowAnswer;
-use start::StartAnswer;
 use script::Script;
 use script::Step;
 use settings::Settings;
+use start::StartAnswer;
 use state::State;
 
 // Memory is 16,384 words.

@@ -7,9 +7,9 @@ use libc::STDOUT_FILENO;
 use memory::Refusal;
 use row::DrawnRow;
 use row::RowAnswer;
-use start::StartAnswer;
 use script::Step;
 use settings::Settings;
+use start::StartAnswer;
 use state::State;
 
 // How far the output agrees with the stored bytes, and whether it differs there.
