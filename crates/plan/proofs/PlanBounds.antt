@@ -1,5 +1,5 @@
 -- How many words a plan reads at most, and what holds of it.
-use mathlib.Core.Path.{_≡_}
+use mathlib.Core.Path.{_≡_, refl}
 use mathlib.Core.Bool.{Bool, true, _&&_}
 use Prim.Native.Nat.{ℕ, _+_, _-_, _≤_, _<_}
 use native.Mathlib.Omega.{arith}
@@ -22,12 +22,14 @@ abbrev pub Inside : Bool → Overlay → Type 0
 Inside hidden none = Unit
 Inside hidden (over first end ws) = Few 15 ws × (first + total hidden ws ≤ end) × (end ≤ 132)
 
--- what the cells need of a plan, and that the next row has fewer lines left
+-- what the cells need of a plan, and how the next row stands: one number further, within 4095, with fewer lines left
 pub record Sound (hidden : Bool) (f : Fields) (p : Plan) : Type 0 where
   pub few : Few 15 (p .segments)
   pub narrow : total hidden (p .segments) ≤ 132
   pub inside : Inside hidden (p .overlay)
   pub edges : edgesFit hidden (p .overlay) (p .segments) ≡ true
+  pub within : f .row + f .left ≤ 4095
+  pub numbered : p .next .row ≡ f .row + 1
   pub fewer : p .next .left < f .left
 
 -- a window of a state in range is in order
@@ -54,6 +56,13 @@ overlaid-reads σ row (Present w) h =
     let l = leb-true (total (σ .hidden) (b .segments)) (w .right + 1 - w .left) h₁₁ in
     dones (hb, omega arith, omega arith))
     (λ _. dones tt)
+
+-- a state in range has its lines within 4095
+pub lines-within : (f : Fields) → inRange f ≡ true → f .row + f .left ≤ 4095
+unfolding inRange
+lines-within f h =
+    let formatted = both _ (isAddress (f .next)) (both _ (windowInRange (f .window)) h .0) .0 in
+    leb-true (f .row + f .left) 4095 (both (leb (f .row + f .left) 4095) (formatInRange (f .format)) formatted .0)
 
 -- a state in range has a scan line to a row at least
 pub has-line : (f : Fields) → inRange f ≡ true → 1 ≤ f .format .lines
@@ -90,4 +99,13 @@ plan-reads σ f =
     bind {n = 78} {k = 0} (omega arith) (overlaid-reads σ (f .row) w hw) λ o ho.
     bind {n = 0} {k = 0} (omega arith) (check-reads 12 (edgesFit (σ .hidden) (o .overlay) (g .block .segments))) λ _ h₁₂.
     let some = ltb-true 0 (f .left) h₄ in
-    dones (record { few = hg .few; narrow = hg .narrow; inside = ho; edges = h₁₂; fewer = omega (arith, hg .tall (has-line f h₃)) })
+    dones
+    (record {
+      few = hg .few;
+      narrow = hg .narrow;
+      inside = ho;
+      edges = h₁₂;
+      within = lines-within f h₃;
+      numbered = refl;
+      fewer = omega (arith, hg .tall (has-line f h₃));
+    })

@@ -2,3 +2,4 @@ pub mod RowBound
 pub mod Alike
 pub mod StartLaws
 pub mod RowLaws
+pub mod StartBound
