@@ -3,8 +3,8 @@ use mathlib.Core.Path.{_≡_, ap, ap₂}
 use Prim.Native.Nat.{ℕ}
 use native.Mathlib.Omega.{arith}
 use Rattle.memory.specs.Reading.{Outcome, given, refused}
-use Rattle.cells.specs.Cells.{Drawing}
-use Rattle.cells.specs.Drawn.{Finished, ofDrawing, finish}
+use Rattle.codes.specs.Codes.{Drawing}
+use Rattle.cells.specs.Answers.{Finished, ofDrawing, finish}
 
 pub finish-refused : (o : Outcome Drawing) {n a : ℕ} → refused n a ≡ finish o → refused n a ≡ o
 finish-refused (given k d) e = cc

@@ -1,5 +1,4 @@
 pub mod CellBounds
-pub mod CellLaws
-pub mod SideLaws
-pub mod RunLaws
+pub mod FillLaws
 pub mod FinishLaws
+pub mod SideLaws

@@ -13,11 +13,11 @@ use Rattle.memory.proofs.ReadBounds.{both}
 use Rattle.blocks.specs.declared.Segment.{Segment}
 use Rattle.blocks.specs.RowBlock.{segmentOf, segmentsOf}
 use Rattle.blocks.proofs.BlockLaws.{segments-more, segments-none}
-use Rattle.plan.specs.declared.Side.{Side}
-use Rattle.plan.specs.declared.Side.the-variants.{Whole, Before, After}
-use Rattle.plan.specs.Layout.{width, total, boundary, over, edgesFit, onSide, segmentsOn}
-use Rattle.plan.proofs.LayoutLaws.{whole-all, clear, before-total, after-total}
-use Rattle.cells.specs.Drawn.{Drawable}
+use Rattle.layout.specs.declared.Side.{Side}
+use Rattle.layout.specs.declared.Side.the-variants.{Whole, Before, After}
+use Rattle.layout.specs.Layout.{width, total, boundary, over, edgesFit, onSide, segmentsOn}
+use Rattle.layout.proofs.LayoutLaws.{whole-all, clear, before-total, after-total}
+use Rattle.cells.specs.Answers.{Drawable}
 
 -- of a list whose first may be left out: the sum of widths, and a reading for each
 module _ (hidden : Bool) (g : Segment) (gs : List Segment) where

@@ -1,4 +1,2 @@
-pub mod Attribute
+pub mod Answers
 pub mod Cells
-pub mod Drawn
-pub mod Runs

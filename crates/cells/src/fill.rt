@@ -1,10 +1,10 @@
 // Fill runs.
-use crate::Drawn;
-use crate::Pen;
-use crate::Source;
-use crate::attribute;
-use crate::pens;
 use blocks::FillMode;
+use codes::Drawn;
+use codes::Pen;
+use codes::Source;
+use codes::attribute;
+use codes::pens;
 use memory::Fetch;
 use settings::Settings;
 ghost use mathlib.Core.Path.{_≡_};
@@ -13,7 +13,8 @@ ghost use Prim.Native.Nat.{_+_, _-_, _≤_};
 ghost use lib.ListN.{length, take, replicate};
 ghost use Rattle.memory.specs.Reading.{runFrom};
 ghost use Rattle.cells.specs.Cells.{filled, fillByWord, fillTo};
-ghost use Rattle.cells.specs.Drawn.{soFar, drawn, Reached};
+ghost use Rattle.codes.specs.Answers.{soFar, drawn};
+ghost use Rattle.cells.specs.Answers.{Reached};
 
 // A fill run up to the column `end`.
 pub(crate) fn fill_to(
@@ -33,13 +34,13 @@ pub(crate) fn fill_to(
         if fill.flag & pen.list.present {
             fill_by_word(mem, settings, fill, end, pen, words, cells)
         } else {
-            Drawn::Went {
+            Drawn::Accepted {
                 pen: fill_run(fill, end, pen, cells),
                 words,
             }
         }
     } else {
-        Drawn::Went { pen, words }
+        Drawn::Accepted { pen, words }
     }
 }
 
@@ -62,7 +63,7 @@ fn fill_by_word(
         Fetch::Word(w) => {
             if memory::bit_15(w) {
                 let taken = pens::take_word(settings.linear, w, pen);
-                Drawn::Went {
+                Drawn::Accepted {
                     pen: fill_run(fill, end, taken, cells),
                     words: words + 1,
                 }

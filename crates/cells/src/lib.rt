@@ -1,9 +1,12 @@
 // The cells of a row, drawn left to right.
 use blocks::FillMode;
 use blocks::Segment;
-use plan::OverlayHead;
-use plan::Side;
-use plan::layout;
+use codes::Drawn;
+use codes::Pen;
+use codes::Source;
+use codes::pens;
+use layout::OverlayHead;
+use layout::Side;
 use settings::Settings;
 ghost use mathlib.Core.Path.{_≡_};
 ghost use Prim.Native.Nat.{_+_, _*_, _≤_};
@@ -11,49 +14,18 @@ ghost use lib.ListN.{length};
 ghost use Rattle.memory.specs.Word.{if_then_else_};
 ghost use Rattle.memory.specs.Reading.{done, each, runFrom};
 ghost use Rattle.blocks.specs.RowBlock.{segmentsOf};
-ghost use Rattle.plan.specs.Layout.{width, total, over, segmentsOn};
-ghost use Rattle.plan.specs.Plan.{overlayOf};
-ghost use Rattle.cells.specs.Cells.{codeCount, segment, segmentsTo, rowCells, blank};
-ghost use Rattle.cells.specs.Drawn.{soFar, drawn, finish, finished, Reached, Drawable};
+ghost use Rattle.layout.specs.Layout.{width, total, over, segmentsOn};
+ghost use Rattle.layout.specs.Answers.{overlayOf};
+ghost use Rattle.codes.specs.Codes.{blank};
+ghost use Rattle.cells.specs.Cells.{codeCount, segment, segmentsTo, rowCells};
+ghost use Rattle.codes.specs.Answers.{soFar, drawn};
+ghost use Rattle.cells.specs.Answers.{finish, finished, Reached, Drawable};
 
-pub mod attribute; // attribute words, and the bits of a cell
-mod codes; // the codes of a segment
-mod each_word; // .. word by word, where a word may be missing or an address wraps
 mod fill; // fill runs
-mod listed; // .. of a segment with a list
-mod pens; // where drawing stands
-mod plain; // .. of a segment without one
-
-// Where a cell comes from.
-pub enum Source {
-    Fill,
-    Background,
-    Window,
-}
-
-// The attribute list in use, at its next word; none where it is not present.
-pub struct AttributeList {
-    pub present: bool,
-    pub next: u32,
-}
-
-// Where drawing stands: the next column, the latch, whether a word of this row became the latch, and the list in use.
-pub struct Pen {
-    pub column: usize,
-    pub latch: u16,
-    pub latched: bool,
-    pub list: AttributeList,
-}
-
-// Where drawing went, with the words read so far; or the refusal that it met.
-pub enum Drawn {
-    Went { pen: Pen, words: u32 },
-    Refused { number: u8, address: u32 },
-}
 
 // What the cells of a row came to: the latch, whether a word of this row became it, and the words read; or the refusal met.
 pub enum CellsDrawn {
-    Went {
+    Accepted {
         latch: u16,
         latched: bool,
         words: u32,
@@ -94,7 +66,7 @@ pub fn draw_cells(
         cells,
     ) {
         Drawn::Refused { number, address } => CellsDrawn::Refused { number, address },
-        Drawn::Went { pen, words: read } => CellsDrawn::Went {
+        Drawn::Accepted { pen, words: read } => CellsDrawn::Accepted {
             latch: pen.latch,
             latched: pen.latched,
             words: read,
@@ -199,7 +171,7 @@ fn draw_around(
         cells,
     ) {
         Drawn::Refused { number, address } => Drawn::Refused { number, address },
-        Drawn::Went {
+        Drawn::Accepted {
             pen: before,
             words: read,
         } => {
@@ -218,12 +190,12 @@ fn draw_around(
                 cells,
             ) {
                 Drawn::Refused { number, address } => Drawn::Refused { number, address },
-                Drawn::Went {
+                Drawn::Accepted {
                     pen: after,
                     words: so_far,
                 } => {
                     let list = before.list;
-                    let hand = pens::using_list(list, after);
+                    let resumed = pens::using_list(list, after);
                     let side = Side::After(first, end);
                     draw_run(
                         mem,
@@ -234,7 +206,7 @@ fn draw_around(
                         back,
                         count,
                         132,
-                        hand,
+                        resumed,
                         so_far,
                         cells,
                     )
@@ -276,7 +248,7 @@ fn draw_run(
         cells,
     ) {
         Drawn::Refused { number, address } => Drawn::Refused { number, address },
-        Drawn::Went {
+        Drawn::Accepted {
             pen: after,
             words: read,
         } => fill::fill_to(mem, settings, fill, end, after, read, cells),
@@ -302,7 +274,7 @@ fn draw_side(
     ensures { λ r. ⌜ drawn r (now (cells .exit)) ≡ runFrom words (now (mem .entry)) (each (segment settings fill source) (segmentsOn side (settings .hidden) 0 (segmentsOf (settings .linear) count (now (segments .entry)))) (soFar pen (now (cells .entry)))) ⌝ }
 {
     let n = count as usize;
-    let mut hand = pen;
+    let mut current = pen;
     let mut read = words;
     let mut at = 0;
     let mut i = 0;
@@ -310,21 +282,21 @@ fn draw_side(
         let g = layout::segment_at(settings.linear, segments, i);
         let w = layout::width(settings.hidden, g);
         let chosen = layout::on_side(side, at, w);
-        match draw_chosen(mem, settings, fill, source, chosen, g, hand, read, cells) {
+        match draw_chosen(mem, settings, fill, source, chosen, g, current, read, cells) {
             Drawn::Refused { number, address } => return Drawn::Refused { number, address },
-            Drawn::Went {
+            Drawn::Accepted {
                 pen: after,
                 words: so_far,
             } => {
-                hand = after;
+                current = after;
                 read = so_far;
             }
         }
         at += w;
         i += 1;
     }
-    Drawn::Went {
-        pen: hand,
+    Drawn::Accepted {
+        pen: current,
         words: read,
     }
 }
@@ -348,7 +320,7 @@ fn draw_chosen(
     if chosen {
         draw_segment(mem, settings, fill, source, g, pen, words, cells)
     } else {
-        Drawn::Went { pen, words }
+        Drawn::Accepted { pen, words }
     }
 }
 
@@ -369,7 +341,7 @@ fn draw_segment(
 {
     let end = pen.column + layout::width(settings.hidden, g);
     let begun = pens::with_list(g.attributes, pen);
-    match codes::draw_codes(
+    match runs::draw_codes(
         mem,
         settings,
         source,
@@ -381,7 +353,7 @@ fn draw_segment(
         cells,
     ) {
         Drawn::Refused { number, address } => Drawn::Refused { number, address },
-        Drawn::Went {
+        Drawn::Accepted {
             pen: after,
             words: read,
         } => fill::fill_to(mem, settings, fill, end, after, read, cells),

@@ -87,26 +87,26 @@ fn draw_rows(settings: Settings, mem: &[u16], first: Progress) {
 
 fn print_row(settings: Settings, row: DrawnRow, cells: &[u32; 132]) {
     let mut line = [0u8; 1024];
-    let n = script::lines::row_line(row, &mut line);
+    let n = lines::row_line(row, &mut line);
     io::write_all(STDOUT_FILENO, &line[..n]);
-    let m = script::lines::cell_line(settings, cells, &mut line);
+    let m = lines::cell_line(settings, cells, &mut line);
     io::write_all(STDOUT_FILENO, &line[..m]);
 }
 
 fn print_end(rows: u64, words: u64) {
     let mut line = [0u8; 1024];
-    let n = script::lines::end_line(rows, words, &mut line);
+    let n = lines::end_line(rows, words, &mut line);
     io::write_all(STDOUT_FILENO, &line[..n]);
 }
 
 fn print_refusal(refusal: Refusal) {
     let mut line = [0u8; 1024];
-    let n = script::lines::refusal_line(refusal, &mut line);
+    let n = lines::refusal_line(refusal, &mut line);
     io::write_all(STDOUT_FILENO, &line[..n]);
 }
 
 fn print_refused_script(offset: u64) {
     let mut line = [0u8; 1024];
-    let n = script::lines::script_line(offset, &mut line);
+    let n = lines::script_line(offset, &mut line);
     io::write_all(STDOUT_FILENO, &line[..n]);
 }

@@ -7,12 +7,12 @@ use lib.ListN.{length}
 use Rattle.memory.specs.Reading.{Outcome, given, refused, run}
 use Rattle.memory.proofs.Related.{Ends, givens, refuseds, run-rel}
 use Rattle.settings.specs.declared.Settings.{Settings}
-use Rattle.plan.specs.declared.Fields.{Fields}
-use Rattle.plan.specs.declared.State.{State}
+use Rattle.state.specs.declared.Fields.{Fields}
+use Rattle.state.specs.declared.State.{State}
 use Rattle.row.specs.declared.RowAnswer.{RowAnswer}
 use Rattle.row.specs.declared.RowAnswer.the-variants.{Accepted, Refused}
-use Rattle.plan.specs.State.{stateOf, refusal}
-use Rattle.cells.specs.Attribute.{ignores}
+use Rattle.state.specs.State.{stateOf, refusal}
+use Rattle.codes.specs.Attribute.{ignores}
 use Rattle.plan.specs.Plan.{Plan}
 use Rattle.row.specs.Row.{Row, row, answered, rowCall}
 use Rattle.row.proofs.Alike.{kept, became, alike, EndAlike, ends, row-alike, Planned, accepts, refusing, row-planned}

@@ -8,13 +8,14 @@ use Rattle.memory.specs.Reading.{Reading, done, _>>=_, Outcome, given, refused,
 use Rattle.memory.proofs.Laws.{bind-given, bind-refused, run-done}
 use Rattle.memory.proofs.ReadBounds.{if-cases}
 use Rattle.settings.specs.declared.Settings.{Settings}
-use Rattle.plan.specs.declared.Fields.{Fields}
-use Rattle.plan.specs.declared.State.{State}
+use Rattle.state.specs.declared.Fields.{Fields}
+use Rattle.state.specs.declared.State.{State}
 use Rattle.plan.specs.Plan.{Plan, plan}
 use Rattle.cells.specs.declared.CellsDrawn.{CellsDrawn}
 use Rattle.cells.specs.declared.CellsDrawn.the-variants as Cells
-use Rattle.cells.specs.Cells.{Drawing, blank, rowCells}
-use Rattle.cells.specs.Drawn.{Finished, finish, finished}
+use Rattle.codes.specs.Codes.{Drawing, blank}
+use Rattle.cells.specs.Cells.{rowCells}
+use Rattle.cells.specs.Answers.{Finished, finish, finished}
 use Rattle.cells.proofs.FinishLaws.{finish-refused, finish-given}
 use Rattle.row.specs.Row.{Row, drawnBy, fromPlan, row}
 use Rattle.row.proofs.RowLaws.{planned-refused, planned-drawn}
@@ -77,7 +78,7 @@ module _ (σ : Settings) (m : List ℕ) (s : State) {n : ℕ} {p : Plan} (e : gi
       → finished c cs ≡ finish (runFrom n m (rowCells σ (s .fields .fill) (p .overlay) (p .segments) (blank (s .latch))))
       → (partDrawn (s .fields) c ≡ partOf (s .fields) (run m (row σ s))) × ((x : NextFields) → nextDrawn (p .next) c x ≡ nextOf (run m (row σ s)) x)
   cells-row (Cells.Refused i a) cs h = rw (← planned-refused σ m s e (finish-refused _ h)) (refl, λ x. refl)
-  cells-row (Cells.Went l b i) cs h =
+  cells-row (Cells.Accepted l b i) cs h =
       let g = finish-given _ h in
       rw (← planned-drawn σ m s e (g .is)) (
         ap₂ (λ (b : Bool) (w : ℕ). if b then Set w else Keep) (ap (λ (f : Finished). f .latched) (g .same)) (ap (λ (f : Finished). f .latch) (g .same)),

@@ -2,7 +2,7 @@
 use mathlib.Core.Path.{_≡_, refl, ap, sym, _∙_}
 use mathlib.Core.Bool.{Bool, true, false}
 use Prim.Native.Nat.{ℕ}
-use Rattle.cells.specs.Attribute.{ignores}
+use Rattle.codes.specs.Attribute.{ignores}
 use Rattle.effect.specs.declared.Part.{Part}
 use Rattle.effect.specs.declared.Part.the-variants.{Keep, Set, Refuse}
 use Rattle.effect.specs.declared.Effect.{Effect}

@@ -5,8 +5,8 @@ use mathlib.Core.List.{List}
 use Rattle.memory.specs.Word.{if_then_else_}
 use Rattle.memory.specs.Reading.{Outcome, given, refused, run}
 use Rattle.settings.specs.declared.Settings.{Settings}
-use Rattle.plan.specs.declared.Fields.{Fields}
-use Rattle.plan.specs.State.{stateOf, refusal}
+use Rattle.state.specs.declared.Fields.{Fields}
+use Rattle.state.specs.State.{stateOf, refusal}
 use Rattle.row.specs.Row.{Row, row}
 use Rattle.cells.specs.declared.CellsDrawn.{CellsDrawn}
 use Rattle.cells.specs.declared.CellsDrawn.the-variants as Cells
@@ -53,10 +53,10 @@ sameParts part next = record { effect = record { clear = part; set = part }; nex
 -- the part and the next fields that the cells of a planned row tell, and the answer
 abbrev pub partDrawn : Fields → CellsDrawn → Part
 partDrawn f (Cells.Refused n a) = Refuse (refusal (f .row) n a)
-partDrawn f (Cells.Went latch latched n) = if latched then Set latch else Keep
+partDrawn f (Cells.Accepted latch latched n) = if latched then Set latch else Keep
 
 abbrev pub nextDrawn : Fields → CellsDrawn → NextFields → NextFields
-nextDrawn reached (Cells.Went latch latched n) otherwise = Reached reached
+nextDrawn reached (Cells.Accepted latch latched n) otherwise = Reached reached
 nextDrawn reached (Cells.Refused n a) otherwise = otherwise
 
 abbrev pub effectDrawn : Fields → Fields → CellsDrawn → CellsDrawn → EffectAnswer

@@ -2,7 +2,7 @@
 -- word, or refuse." How effects are joined and applied.
 use Prim.Native.Nat.{ℕ}
 use mathlib.Core.Bool.{Bool, true, false}
-use Rattle.cells.specs.Attribute.{ignores}
+use Rattle.codes.specs.Attribute.{ignores}
 use Rattle.effect.specs.declared.Part.{Part}
 use Rattle.effect.specs.declared.Part.the-variants.{Keep, Set, Refuse}
 use Rattle.effect.specs.declared.Effect.{Effect}

@@ -2,14 +2,15 @@
 use cells::CellsDrawn;
 use follow::Followed;
 use memory::Refusal;
-use plan::Fields;
 use plan::PlanAnswer;
 use plan::PlanHead;
 use settings::Settings;
+use state::Fields;
 ghost use mathlib.Core.Path.{_≡_};
 ghost use Rattle.memory.specs.Reading.{given, run};
-ghost use Rattle.plan.specs.Plan.{planOf, plan};
-ghost use Rattle.plan.specs.State.{stateOf};
+ghost use Rattle.plan.specs.Plan.{plan};
+ghost use Rattle.plan.specs.Answers.{planOf};
+ghost use Rattle.state.specs.State.{stateOf};
 ghost use Rattle.row.specs.Row.{row};
 ghost use Rattle.effect.specs.declared.NextFields.{NextFields};
 ghost use Rattle.effect.specs.Join.{partFor, setThen, joinPart, join, apply};
@@ -186,7 +187,7 @@ fn part_of(fields: Fields, d: CellsDrawn) -> Part
             row: fields.row,
             address,
         }),
-        CellsDrawn::Went {
+        CellsDrawn::Accepted {
             latch,
             latched,
             words: _,
@@ -209,7 +210,7 @@ fn next_of(reached: Fields, d: CellsDrawn, otherwise: NextFields) -> NextFields
             number: _,
             address: _,
         } => otherwise,
-        CellsDrawn::Went {
+        CellsDrawn::Accepted {
             latch: _,
             latched: _,
             words: _,

@@ -10,9 +10,9 @@ use Rattle.settings.specs.declared.Settings.{Settings}
 use Rattle.blocks.specs.declared.Segment.{Segment}
 use Rattle.blocks.specs.RowBlock.{segmentOf, segmentsOf}
 use Rattle.blocks.proofs.BlockLaws.{segments-more, segments-none}
-use Rattle.plan.specs.declared.Side.{Side}
-use Rattle.plan.specs.Layout.{width, onSide, segmentsOn}
-use Rattle.cells.specs.Attribute.{latches}
+use Rattle.layout.specs.declared.Side.{Side}
+use Rattle.layout.specs.Layout.{width, onSide, segmentsOn}
+use Rattle.codes.specs.Attribute.{latches}
 use Rattle.follow.specs.declared.Followed.{Followed}
 use Rattle.follow.specs.declared.Followed.the-variants.{Kept, Latched, Unclear}
 use Rattle.follow.specs.Follow.{join, takes, invoking, lastLatched, overSegment, overSegments}

@@ -18,14 +18,15 @@ use Rattle.settings.specs.declared.Settings.{Settings}
 use Rattle.blocks.specs.declared.FillMode.{FillMode}
 use Rattle.blocks.specs.declared.Segment.{Segment}
 use Rattle.blocks.specs.RowBlock.{null}
-use Rattle.plan.specs.Layout.{width, Overlay, none, over}
-use Rattle.cells.specs.declared.Source.{Source}
-use Rattle.cells.specs.declared.Source.the-variants.{Background, Window}
-use Rattle.cells.specs.declared.AttributeList.{AttributeList}
-use Rattle.cells.specs.Attribute.{invokes, latches, ignores}
-use Rattle.cells.specs.Cells.{Drawing, drawing, listAt, noList, blank, withList, taking, put, character, examine, wordCodes, codes, codeCount}
+use Rattle.layout.specs.Layout.{width, Overlay, none, over}
+use Rattle.codes.specs.declared.Source.{Source}
+use Rattle.codes.specs.declared.Source.the-variants.{Background, Window}
+use Rattle.codes.specs.declared.AttributeList.{AttributeList}
+use Rattle.codes.specs.Attribute.{invokes, latches, ignores}
+use Rattle.codes.specs.Codes.{Drawing, drawing, listAt, noList, blank, withList, taking, put, character, examine, wordCodes, codes}
+use Rattle.cells.specs.Cells.{codeCount}
 use Rattle.cells.specs.Cells.{filled, fillTo, segment, segmentsTo, rowCells}
-use Rattle.cells.proofs.CellLaws.{examine-word, examine-latch}
+use Rattle.codes.proofs.CodeLaws.{examine-word, examine-latch}
 use Rattle.follow.specs.declared.Followed.{Followed}
 use Rattle.follow.specs.declared.Followed.the-variants.{Kept, Latched, Unclear}
 use Rattle.follow.specs.Follow.{join, takes, invoking, lastLatched, taken, overSegment, overSegments, overParts, overRow, ending, orElse, AsDrawn}

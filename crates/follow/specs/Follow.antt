@@ -12,10 +12,11 @@ use Rattle.settings.specs.declared.Settings.{Settings}
 use Rattle.blocks.specs.declared.FillMode.{FillMode}
 use Rattle.blocks.specs.declared.Segment.{Segment}
 use Rattle.blocks.specs.RowBlock.{null}
-use Rattle.plan.specs.declared.Side.the-variants.{Before, After}
-use Rattle.plan.specs.Layout.{Overlay, none, over, segmentsOn}
-use Rattle.cells.specs.Attribute.{invokes, latches}
-use Rattle.cells.specs.Cells.{Drawing, blank, codeCount, rowCells}
+use Rattle.layout.specs.declared.Side.the-variants.{Before, After}
+use Rattle.layout.specs.Layout.{Overlay, none, over, segmentsOn}
+use Rattle.codes.specs.Attribute.{invokes, latches}
+use Rattle.codes.specs.Codes.{Drawing, blank}
+use Rattle.cells.specs.Cells.{codeCount, rowCells}
 use Rattle.follow.specs.declared.Followed.{Followed}
 use Rattle.follow.specs.declared.Followed.the-variants.{Kept, Latched, Unclear}
 

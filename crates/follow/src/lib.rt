@@ -1,19 +1,18 @@
 // What a row does to the latch, followed without cells, where no fill run takes a word and every word is there.
 use blocks::FillMode;
 use blocks::Segment;
-use plan::OverlayHead;
-use plan::Side;
-use plan::layout;
+use layout::OverlayHead;
+use layout::Side;
 use settings::Settings;
 ghost use mathlib.Core.Path.{_≡_};
 ghost use Rattle.memory.specs.Word.{if_then_else_};
 ghost use Rattle.blocks.specs.RowBlock.{segmentsOf};
-ghost use Rattle.plan.specs.Layout.{segmentsOn};
-ghost use Rattle.plan.specs.Plan.{overlayOf};
+ghost use Rattle.layout.specs.Layout.{segmentsOn};
+ghost use Rattle.layout.specs.Answers.{overlayOf};
 ghost use Rattle.follow.specs.declared.Followed.the-variants.{Kept};
 ghost use Rattle.follow.specs.Follow.{join, overSegment, overSegments, overRow, AsDrawn};
 
-mod codes; // the codes of a segment, and the words of its list
+mod segment; // the codes of a segment, and the words of its list
 
 // What becomes of the latch: it is kept, or a word becomes it; or that is unclear, and the row has to be drawn.
 pub enum Followed {
@@ -86,7 +85,7 @@ fn follow_chosen(mem: &[u16], settings: Settings, chosen: bool, g: Segment) -> F
     ensures { λ r. ⌜ r ≡ (if chosen then overSegment settings (now (mem .entry)) g else Kept) ⌝ }
 {
     if chosen {
-        codes::follow_segment(mem, settings, g)
+        segment::follow_segment(mem, settings, g)
     } else {
         Followed::Kept
     }

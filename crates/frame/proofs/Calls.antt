@@ -10,7 +10,7 @@ use Rattle.memory.specs.declared.Refusal.{Refusal}
 use Rattle.memory.specs.Reading.{Outcome, given, refused, run}
 use Rattle.memory.proofs.ReadBounds.{Words, reads-given}
 use Rattle.settings.specs.declared.Settings.{Settings}
-use Rattle.plan.specs.declared.State.{State}
+use Rattle.state.specs.declared.State.{State}
 use Rattle.row.specs.declared.DrawnRow.{DrawnRow}
 use Rattle.row.specs.Start.{startFrom, started}
 use Rattle.row.proofs.StartBound.{start-reads}
@@ -115,7 +115,7 @@ module _ (σ : Settings) (m : List ℕ) (w : Words m) where
             let words = ap (λ (p : Progress). p .words) i in
             let row = ap (λ (p : Progress). p .state .fields .row) i in
             (omega (arith, b .1), record { row = omega (arith, b .1); few = omega (arith, b .0) })
-        by-start (refused n a) h k = let z : _≡_ {A = ℕ} 0 1 = cc in absurd (omega arith)
+        by-start (refused x) h k = let z : _≡_ {A = ℕ} 0 1 = cc in absurd (omega arith)
 
     -- the rows, and the last answer, are the frame's
     pub caller-gets : {rows : List FrameRow} {last : StepAnswer} → Calls σ m p rows last

@@ -51,7 +51,7 @@ module _ (σ : Settings) (m : List ℕ) (w : Words m) (p : Progress) where
   advances-by b (given n r) e =
       let k = row-drawn σ m w (p .state) e in
       record { next = refl; few = k .0; within = k .1 .within; numbered = k .1 .numbered; fewer = k .1 .fewer }
-  advances-by b (refused n a) e = tt
+  advances-by b (refused x) e = tt
 
   row-advances : (b : List ℕ) → Advances p (rowStep p (rowCall σ m (p .state) b .answer))
   unfolding rowCall
@@ -73,7 +73,7 @@ module _ (σ : Settings) (m : List ℕ) (rest : Progress → Frame) (p : Progres
       → byAnswer rest p (rowStep p (answered σ (p .state .fields) a o .answer)) (answered σ (p .state .fields) a o .buffer)
       ≡ byAnswer rest p (rowStep p (answered σ (p .state .fields) b o .answer)) (answered σ (p .state .fields) b o .buffer)
   one-outcome a b (given n r) = refl
-  one-outcome a b (refused n at) = refl
+  one-outcome a b (refused x) = refl
 
   sized : (b : List ℕ) → length b ≡ 132 → rowCall σ m (p .state) b ≡ answered σ (p .state .fields) b (run m (row σ (p .state)))
   unfolding rowCall

@@ -7,7 +7,7 @@ use mathlib.Core.Option.{Option, none, some}
 use lib.ListN.{replicate}
 use Rattle.memory.specs.declared.Refusal.{Refusal}
 use Rattle.settings.specs.declared.Settings.{Settings}
-use Rattle.plan.specs.declared.State.{State}
+use Rattle.state.specs.declared.State.{State}
 use Rattle.row.specs.declared.DrawnRow.{DrawnRow}
 use Rattle.frame.specs.declared.Progress.{Progress}
 use Rattle.frame.specs.declared.BeginAnswer.{BeginAnswer}

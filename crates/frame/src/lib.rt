@@ -1,6 +1,6 @@
 // A frame, row by row: its start, and its row calls until no line is left.
 use memory::Refusal;
-use plan::State;
+use state::State;
 use row::DrawnRow;
 use row::RowAnswer;
 use row::StartAnswer;

@@ -1,3 +1,2 @@
-pub mod State
-pub mod Layout
 pub mod Plan
+pub mod Answers

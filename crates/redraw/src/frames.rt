@@ -1,10 +1,10 @@
 // The frames in memory. Frame 0 has two windows, and a chain of five rows that goes round until the lines run out. Frames 1 to 3
 // end in a row that is refused: by a fill word without bit 15, and only when ignore comes in set; by a missing word; by its
 // widths. Frame 4 goes round the chain of frame 0, from another row and from a latch with ignore set.
-use plan::State;
 use settings::Interlace;
 use settings::PointerWords;
 use settings::Settings;
+use state::State;
 
 pub(crate) fn settings(n: u16) -> Settings {
     let interlace = Interlace::Progressive;

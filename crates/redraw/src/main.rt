@@ -4,11 +4,11 @@ use crate::same::Outcome;
 use effect::Applied;
 use effect::Effect;
 use effect::NextFields;
-use plan::Fields;
-use plan::State;
 use row::RowAnswer;
 use row::StartAnswer;
 use settings::Settings;
+use state::Fields;
+use state::State;
 ghost use mathlib.Core.Path.{_≡_};
 ghost use Rattle.effect.specs.Join.{empty};
 

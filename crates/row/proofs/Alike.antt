@@ -13,16 +13,16 @@ use Rattle.memory.proofs.Related.{Rel, dones, refuses, asks, if-rel, bind, bind
 use Rattle.settings.specs.declared.Settings.{Settings}
 use Rattle.blocks.specs.declared.FillMode.{FillMode}
 use Rattle.blocks.specs.declared.Segment.{Segment}
-use Rattle.cells.specs.declared.Source.{Source}
-use Rattle.cells.specs.declared.Source.the-variants.{Background, Window}
-use Rattle.cells.specs.declared.AttributeList.{AttributeList}
+use Rattle.codes.specs.declared.Source.{Source}
+use Rattle.codes.specs.declared.Source.the-variants.{Background, Window}
+use Rattle.codes.specs.declared.AttributeList.{AttributeList}
 use Rattle.blocks.specs.declared.RowFormat.{RowFormat}
-use Rattle.plan.specs.declared.Fields.{Fields}
-use Rattle.plan.specs.State.{stateOf}
-use Rattle.cells.specs.Attribute.{invokes, latches, ignores}
-use Rattle.plan.specs.Layout.{width, Overlay, none, over}
+use Rattle.state.specs.declared.Fields.{Fields}
+use Rattle.state.specs.State.{stateOf}
+use Rattle.codes.specs.Attribute.{invokes, latches, ignores}
+use Rattle.layout.specs.Layout.{width, Overlay, none, over}
 use Rattle.plan.specs.Plan.{Plan, plan}
-use Rattle.cells.specs.Cells.{Drawing, drawing, blank, noList, listAt, withList, taking, put, character, examine, wordCodes, codes}
+use Rattle.codes.specs.Codes.{Drawing, drawing, blank, noList, listAt, withList, taking, put, character, examine, wordCodes, codes}
 use Rattle.cells.specs.Cells.{filled, fillByWord, fillTo, segment, segmentsTo, rowCells}
 use Rattle.row.specs.Row.{Row, drawnBy, row}
 

@@ -11,11 +11,11 @@ use lib.Dec.{eqb, lit≤}
 use Rattle.memory.specs.Reading.{Outcome, given, run}
 use Rattle.memory.proofs.ReadBounds.{Words, Reads, dones, bind, Within, given-within, refused-within, if-cases, run-reads, reads-given}
 use Rattle.settings.specs.declared.Settings.{Settings}
-use Rattle.plan.specs.declared.Fields.{Fields}
-use Rattle.plan.specs.declared.State.{State}
+use Rattle.state.specs.declared.Fields.{Fields}
+use Rattle.state.specs.declared.State.{State}
 use Rattle.row.specs.Row.{Row, row, withCursor, Called, answered, rowCall}
 use Rattle.plan.proofs.PlanBounds.{plan-reads}
-use Rattle.cells.specs.Cells.{blank}
+use Rattle.codes.specs.Codes.{blank}
 use Rattle.cells.proofs.CellBounds.{cells-read}
 
 -- 132 cells, and a next state one row further, within 4095, with fewer lines left

@@ -13,17 +13,19 @@ use Rattle.memory.specs.Reading.{Reading, given, refused, runFrom, run}
 use Rattle.memory.proofs.Laws.{bind-given, bind-refused, run-done}
 use Rattle.memory.proofs.ReadBounds.{Words, reads-given}
 use Rattle.settings.specs.declared.Settings.{Settings}
-use Rattle.plan.specs.declared.Fields.{Fields}
-use Rattle.plan.specs.declared.State.{State}
-use Rattle.plan.specs.Layout.{Overlay, none, over}
+use Rattle.state.specs.declared.Fields.{Fields}
+use Rattle.state.specs.declared.State.{State}
+use Rattle.layout.specs.Layout.{Overlay, none, over}
 use Rattle.plan.specs.Plan.{Plan, plan}
+use Rattle.layout.proofs.OverlayBounds as Overlays
 use Rattle.plan.proofs.PlanBounds as Bounds
-use Rattle.cells.specs.Cells.{Drawing, blank, rowCells}
-use Rattle.cells.specs.Drawn.{Inside, Drawable}
+use Rattle.codes.specs.Codes.{Drawing, blank}
+use Rattle.cells.specs.Cells.{rowCells}
+use Rattle.cells.specs.Answers.{Inside, Drawable}
 use Rattle.row.specs.Row.{drawnBy, row}
 
 -- what a sound plan gives the cells
-inside : (hidden : Bool) (o : Overlay) → Bounds.Inside hidden o → Inside hidden o
+inside : (hidden : Bool) (o : Overlay) → Overlays.Inside hidden o → Inside hidden o
 inside hidden none h = lit≤ tt
 inside hidden (over first end ws) h = (h .1, h .2)
 

@@ -13,7 +13,7 @@ use Rattle.blocks.specs.declared.MainBlock.{MainBlock}
 use Rattle.blocks.specs.declared.WindowInHand.{WindowInHand}
 use Rattle.blocks.specs.Main.{mainBlockAt}
 use Rattle.blocks.specs.Window.{firstWindow}
-use Rattle.plan.specs.State.{stateOf}
+use Rattle.state.specs.State.{stateOf}
 use Rattle.row.specs.Start.{firstFields, windowStart, startFrom}
 
 abbrev topOf : Settings → ℕ

@@ -10,13 +10,14 @@ use Rattle.memory.specs.Reading.{Reading, done, _>>=_, Outcome, given, refused,
 use Rattle.settings.specs.declared.Settings.{Settings}
 use Rattle.blocks.specs.declared.FillMode.{FillMode}
 use Rattle.blocks.specs.declared.RowFormat.{RowFormat}
-use Rattle.plan.specs.declared.Fields.{Fields}
-use Rattle.plan.specs.declared.State.{State}
+use Rattle.state.specs.declared.Fields.{Fields}
+use Rattle.state.specs.declared.State.{State}
 use Rattle.row.specs.declared.RowAnswer.{RowAnswer}
 use Rattle.row.specs.declared.RowAnswer.the-variants.{Accepted, Refused}
-use Rattle.plan.specs.State.{stateOf, refusal}
+use Rattle.state.specs.State.{stateOf, refusal}
 use Rattle.plan.specs.Plan.{Plan, plan}
-use Rattle.cells.specs.Cells.{Drawing, blank, rowCells}
+use Rattle.codes.specs.Codes.{Drawing, blank}
+use Rattle.cells.specs.Cells.{rowCells}
 
 -- what a row comes to: its lines and format, the next state's fields, and its drawing at the end
 pub record Row : Type 0 where

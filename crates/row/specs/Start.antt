@@ -12,11 +12,11 @@ use Rattle.blocks.specs.declared.WindowInHand.{WindowInHand}
 use Rattle.blocks.specs.Main.{mainBlockAt}
 use Rattle.blocks.specs.RowBlock.{null}
 use Rattle.blocks.specs.Window.{firstWindow}
-use Rattle.plan.specs.declared.Fields.{Fields}
-use Rattle.plan.specs.declared.State.{State}
+use Rattle.state.specs.declared.Fields.{Fields}
+use Rattle.state.specs.declared.State.{State}
 use Rattle.row.specs.declared.StartAnswer.{StartAnswer}
 use Rattle.row.specs.declared.StartAnswer.the-variants.{Accepted, Refused}
-use Rattle.plan.specs.State.{stateOf, refusal}
+use Rattle.state.specs.State.{stateOf, refusal}
 
 -- "A frame starts with row attributes 0, M6's lines, CURS 0, CURE 31."
 unfoldable pub firstFields : Settings → MainBlock → WindowInHand → Fields

@@ -6,16 +6,17 @@ use blocks::WindowInHand;
 use blocks::WindowRead;
 use cells::CellsDrawn;
 use memory::Refusal;
-use plan::Fields;
 use plan::PlanAnswer;
 use plan::PlanHead;
-use plan::State;
 use settings::Settings;
+use state::Fields;
+use state::State;
 ghost use mathlib.Core.Path.{_≡_};
 ghost use lib.ListN.{length};
 ghost use Rattle.memory.specs.Reading.{given, runFrom, run};
-ghost use Rattle.plan.specs.State.{stateOf, refusal};
-ghost use Rattle.plan.specs.Plan.{plan, planOf};
+ghost use Rattle.state.specs.State.{stateOf, refusal};
+ghost use Rattle.plan.specs.Plan.{plan};
+ghost use Rattle.plan.specs.Answers.{planOf};
 ghost use Rattle.row.specs.Start.{firstFields, windowStart, started, startCall};
 ghost use Rattle.row.specs.Row.{row, withCursor, called, answerOf, answered, rowCall, FewWords};
 
@@ -113,7 +114,7 @@ fn draw_planned(
         CellsDrawn::Refused { number, address } => {
             RowAnswer::Refused(refusal(fields.row, number, address))
         }
-        CellsDrawn::Went {
+        CellsDrawn::Accepted {
             latch,
             latched: _,
             words,

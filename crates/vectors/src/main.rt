@@ -191,27 +191,27 @@ fn with_row(
     want: &[u8],
 ) -> Place {
     let mut line = [0u8; 1024];
-    let n = script::lines::row_line(row, &mut line);
+    let n = lines::row_line(row, &mut line);
     let then = compare(place, &line[..n], want);
-    let m = script::lines::cell_line(settings, cells, &mut line);
+    let m = lines::cell_line(settings, cells, &mut line);
     compare(then, &line[..m], want)
 }
 
 fn with_end(place: Place, rows: u64, words: u64, want: &[u8]) -> Place {
     let mut line = [0u8; 1024];
-    let n = script::lines::end_line(rows, words, &mut line);
+    let n = lines::end_line(rows, words, &mut line);
     compare(place, &line[..n], want)
 }
 
 fn with_refusal(place: Place, refusal: Refusal, want: &[u8]) -> Place {
     let mut line = [0u8; 1024];
-    let n = script::lines::refusal_line(refusal, &mut line);
+    let n = lines::refusal_line(refusal, &mut line);
     compare(place, &line[..n], want)
 }
 
 fn refused_script(offset: u64, want: &[u8]) -> Place {
     let mut line = [0u8; 1024];
-    let n = script::lines::script_line(offset, &mut line);
+    let n = lines::script_line(offset, &mut line);
     compare(beginning(), &line[..n], want)
 }
 

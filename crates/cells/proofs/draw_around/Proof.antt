@@ -3,9 +3,9 @@ use Prim.Native.Nat.{_+_}
 use native.Mathlib.Omega.{arith}
 use Rattle.memory.proofs.Laws.{bind-given, bind-refused}
 use Rattle.blocks.specs.RowBlock.{segmentsOf}
-use Rattle.plan.proofs.LayoutLaws.{whole-all}
+use Rattle.layout.proofs.LayoutLaws.{whole-all}
 use Rattle.cells.specs.Cells.{rowCells}
-use Rattle.cells.proofs.CellLaws.{reached-more}
+use Rattle.cells.proofs.FillLaws.{reached-more}
 use Rattle.cells.proofs.SideLaws.{around}
 use borrow.Author.Needs.{needs}
 use Rattle.cells.proofs.draw_around.Statement.{statement}

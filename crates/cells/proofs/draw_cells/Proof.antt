@@ -5,7 +5,7 @@ use native.Mathlib.Omega.{arith}
 use lib.ListN.{take}
 use lib.Seq.{take-all}
 use Rattle.memory.specs.Reading.{given}
-use Rattle.cells.specs.Drawn.{finish}
+use Rattle.cells.specs.Answers.{finish}
 use borrow.Author.Needs.{needs}
 use Rattle.cells.proofs.draw_cells.Statement.{statement}
 use Rattle.cells.proofs.draw_cells.Tie as tie

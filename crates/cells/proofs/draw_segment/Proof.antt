@@ -3,7 +3,7 @@ use Prim.Native.Nat.{_+_}
 use native.Mathlib.Omega.{arith}
 use Rattle.memory.proofs.Laws.{bind-given, bind-refused}
 use Rattle.cells.specs.Cells.{segment}
-use Rattle.cells.proofs.CellLaws.{reached-more}
+use Rattle.cells.proofs.FillLaws.{reached-more}
 use borrow.Author.Needs.{needs}
 use Rattle.cells.proofs.draw_segment.Statement.{statement}
 use Rattle.cells.proofs.draw_segment.Tie as tie

@@ -5,25 +5,25 @@ use native.Mathlib.Omega.{arith}
 use lib.ListN.{length, drop}
 use Rattle.memory.specs.Reading.{each, runFrom}
 use Rattle.blocks.specs.RowBlock.{segmentsOf}
-use Rattle.plan.specs.Layout.{width, total, segmentsOn}
-use Rattle.plan.proofs.LayoutLaws.{width-byte}
+use Rattle.layout.specs.Layout.{width, total, segmentsOn}
+use Rattle.layout.proofs.LayoutLaws.{width-byte}
 use Rattle.cells.specs.Cells.{segment}
-use Rattle.cells.specs.Drawn.{soFar}
+use Rattle.codes.specs.Answers.{soFar}
 use Rattle.cells.proofs.SideLaws.{side-total, side-none-total, side-given, side-refused, side-none}
 use borrow.Author.Needs.{needs}
 use Rattle.cells.proofs.draw_side.Statement.{statement}
 use Rattle.cells.proofs.draw_side.Tie as tie
 
 abbrev Inv-loop : tie.InvT-loop
-Inv-loop mem settings fill source side segments count words cells₀ n hand₀ read₀ at₀ i₀ cells hand read at i =
+Inv-loop mem settings fill source side segments count words cells₀ n current₀ read₀ at₀ i₀ cells current read at i =
     (i ≤ n) × (length cells ≡ length cells₀) × (at ≤ 255 * i) × (read ≤ words + 512 * i)
-    × (hand .column + total (settings .hidden) (segmentsOn side (settings .hidden) at (segmentsOf (settings .linear) (n - i) (drop (5 * i) segments)))
-    ≡ hand₀ .column + total (settings .hidden) (segmentsOn side (settings .hidden) 0 (segmentsOf (settings .linear) n segments)))
-    × (runFrom words mem (each (segment settings fill source) (segmentsOn side (settings .hidden) 0 (segmentsOf (settings .linear) n segments)) (soFar hand₀ cells₀))
-    ≡ runFrom read mem (each (segment settings fill source) (segmentsOn side (settings .hidden) at (segmentsOf (settings .linear) (n - i) (drop (5 * i) segments))) (soFar hand cells)))
+    × (current .column + total (settings .hidden) (segmentsOn side (settings .hidden) at (segmentsOf (settings .linear) (n - i) (drop (5 * i) segments)))
+    ≡ current₀ .column + total (settings .hidden) (segmentsOn side (settings .hidden) 0 (segmentsOf (settings .linear) n segments)))
+    × (runFrom words mem (each (segment settings fill source) (segmentsOn side (settings .hidden) 0 (segmentsOf (settings .linear) n segments)) (soFar current₀ cells₀))
+    ≡ runFrom read mem (each (segment settings fill source) (segmentsOn side (settings .hidden) at (segmentsOf (settings .linear) (n - i) (drop (5 * i) segments))) (soFar current cells)))
 
 abbrev μ-loop : tie.MeasureT-loop
-μ-loop mem settings fill source side segments count words cells₀ n hand₀ read₀ at₀ i₀ cells hand read at i = n - i
+μ-loop mem settings fill source side segments count words cells₀ n current₀ read₀ at₀ i₀ cells current read at i = n - i
 
 loop-holds : tie.Need-loop-holds Inv-loop μ-loop
 loop-holds c = (omega arith, refl, omega arith, omega arith, rw sub-zero, rw sub-zero)
@@ -43,7 +43,7 @@ returns c =
       (omega arith, omega arith),
       sym (l .inv .5
           ∙ side-refused (l .read) (a .mem .now) (a .settings .linear) (a .settings .hidden) (a .side) (l .at) (a .count - l .i) (l .i) (a .segments .now)
-          (segment (a .settings) (a .fill) (a .source)) (soFar (l .hand) (l .cells)) (omega arith)
+          (segment (a .settings) (a .fill) (a .source)) (soFar (l .current) (l .cells)) (omega arith)
           (sym (rw (c .before .number .given .1, c .before .before .before .before .before .before .before .on-side .ensures, c .before .before .before .before .before .before .before .before .width .ensures, c .before .before .before .before .before .before .before .before .before .segment-at .ensures) at (c .before .before .before .before .before .draw-chosen .ensures .1)))),
     )
 
@@ -69,7 +69,7 @@ loop-again c =
       rw (c .before .before .before .before .before .before .before .before .width .ensures, c .before .before .before .before .before .before .before .before .before .segment-at .ensures, sub-add-eq) (omega (arith, t, h .0, l .inv .4)),
       l .inv .5
           ∙ side-given (l .read) (a .mem .now) (a .settings .linear) (a .settings .hidden) (a .side) (l .at) (a .count - l .i) (l .i) (a .segments .now)
-          (segment (a .settings) (a .fill) (a .source)) (soFar (l .hand) (l .cells)) (omega arith)
+          (segment (a .settings) (a .fill) (a .source)) (soFar (l .current) (l .cells)) (omega arith)
           (sym (rw (c .before .after .given .1, c .before .before .before .before .before .before .before .on-side .ensures, c .before .before .before .before .before .before .before .before .width .ensures, c .before .before .before .before .before .before .before .before .before .segment-at .ensures) at (e .ensures .1)))
           ∙ rw (c .before .before .before .before .before .before .before .before .width .ensures, c .before .before .before .before .before .before .before .before .before .segment-at .ensures, sub-add-eq),
     )
@@ -82,7 +82,7 @@ returns-2 c =
       (omega (arith, z, l .inv .4), omega arith),
       sym (l .inv .5
           ∙ side-none (l .read) (a .mem .now) (a .settings .linear) (a .settings .hidden) (a .side) (l .at) (a .count - l .i) (l .i) (a .segments .now)
-          (segment (a .settings) (a .fill) (a .source)) (soFar (l .hand) (l .cells)) (omega arith)),
+          (segment (a .settings) (a .fill) (a .source)) (soFar (l .current) (l .cells)) (omega arith)),
     )
 
 pub draw-side-spec : {M : Type 1} → statement M

@@ -2,9 +2,9 @@ use mathlib.Core.Path.{refl, _∙_}
 use Prim.Native.Nat.{_+_}
 use native.Mathlib.Omega.{arith}
 use Rattle.blocks.specs.RowBlock.{segmentsOf}
-use Rattle.plan.proofs.LayoutLaws.{whole-all}
+use Rattle.layout.proofs.LayoutLaws.{whole-all}
 use Rattle.cells.specs.Cells.{rowCells}
-use Rattle.cells.proofs.CellLaws.{reached-more}
+use Rattle.cells.proofs.FillLaws.{reached-more}
 use borrow.Author.Needs.{needs}
 use Rattle.cells.proofs.walk_cells.Statement.{statement}
 use Rattle.cells.proofs.walk_cells.Tie as tie

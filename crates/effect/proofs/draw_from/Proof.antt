@@ -1,4 +1,4 @@
-use Rattle.plan.specs.State.{stateOf}
+use Rattle.state.specs.State.{stateOf}
 use Rattle.row.proofs.RowLaws.{plan-drawable}
 use Rattle.effect.proofs.EffectLaws.{cells-row}
 use borrow.Author.Needs.{needs}

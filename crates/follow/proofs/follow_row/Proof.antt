@@ -1,5 +1,5 @@
 use mathlib.Core.Path.{_∙_}
-use Rattle.plan.proofs.LayoutLaws.{whole-all}
+use Rattle.layout.proofs.LayoutLaws.{whole-all}
 use Rattle.follow.specs.Follow.{overRow, overParts}
 use Rattle.follow.proofs.LatchLaws.{row-ends}
 use borrow.Author.Needs.{needs}

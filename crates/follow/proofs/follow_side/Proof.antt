@@ -4,8 +4,8 @@ use native.Mathlib.Omega.{arith}
 use native.Mathlib.Nat.{sub-zero, sub-add-eq}
 use lib.ListN.{drop}
 use Rattle.blocks.specs.RowBlock.{segmentsOf}
-use Rattle.plan.specs.Layout.{segmentsOn}
-use Rattle.plan.proofs.LayoutLaws.{width-byte}
+use Rattle.layout.specs.Layout.{segmentsOn}
+use Rattle.layout.proofs.LayoutLaws.{width-byte}
 use Rattle.follow.specs.Follow.{join, overSegments}
 use Rattle.follow.proofs.FollowLaws.{side-more, side-none}
 use borrow.Author.Needs.{needs}

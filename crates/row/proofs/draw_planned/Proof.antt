@@ -2,8 +2,8 @@ use mathlib.Core.Path.{sym, ap, ap₂, _∙_}
 use mathlib.Core.List.{List}
 use Prim.Native.Nat.{ℕ}
 use lib.Dec.{lit<}
-use Rattle.plan.specs.State.{stateOf}
-use Rattle.cells.specs.Drawn.{Finished}
+use Rattle.state.specs.State.{stateOf}
+use Rattle.cells.specs.Answers.{Finished}
 use Rattle.cells.proofs.FinishLaws.{finish-refused, finish-given}
 use Rattle.row.specs.Row.{withCursor, called, answerOf, answered}
 use Rattle.row.proofs.RowBound.{row-bound}

@@ -2,9 +2,9 @@ use mathlib.Core.Path.{ap, sym, _∙_}
 use Prim.Native.Nat.{_+_}
 use native.Mathlib.Omega.{arith}
 use Rattle.memory.specs.Reading.{given}
-use Rattle.cells.specs.Cells.{taking}
-use Rattle.cells.specs.Drawn.{soFar}
-use Rattle.cells.proofs.CellLaws.{fill-word, fill-unlatched, fill-absent}
+use Rattle.codes.specs.Codes.{taking}
+use Rattle.codes.specs.Answers.{soFar}
+use Rattle.cells.proofs.FillLaws.{fill-word, fill-unlatched, fill-absent}
 use borrow.Author.Needs.{needs}
 use Rattle.cells.proofs.fill.fill_by_word.Statement.{statement}
 use Rattle.cells.proofs.fill.fill_by_word.Tie as tie

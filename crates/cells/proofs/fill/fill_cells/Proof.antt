@@ -3,7 +3,7 @@ use mathlib.Core.List.{_++_}
 use Prim.Native.Nat.{_≤_, _-_}
 use native.Mathlib.Omega.{arith}
 use lib.ListN.{length, take, replicate, length-set}
-use Rattle.cells.proofs.CellLaws.{run-none, run-more}
+use Rattle.cells.proofs.FillLaws.{run-none, run-more}
 use borrow.Author.Needs.{needs}
 use Rattle.cells.proofs.fill.fill_cells.Statement.{statement}
 use Rattle.cells.proofs.fill.fill_cells.Tie as tie

@@ -1,6 +1,6 @@
 use mathlib.Core.Path.{refl}
 use native.Mathlib.Omega.{arith}
-use Rattle.cells.proofs.CellLaws.{filled-run}
+use Rattle.cells.proofs.FillLaws.{filled-run}
 use borrow.Author.Needs.{needs}
 use Rattle.cells.proofs.fill.fill_run.Statement.{statement}
 use Rattle.cells.proofs.fill.fill_run.Tie as tie

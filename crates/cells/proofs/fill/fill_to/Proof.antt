@@ -1,8 +1,8 @@
 use mathlib.Core.Path.{ap, sym, _∙_}
 use native.Mathlib.Omega.{arith}
 use Rattle.memory.specs.Reading.{given}
-use Rattle.cells.specs.Drawn.{soFar}
-use Rattle.cells.proofs.CellLaws.{fill-by-word, fill-plain, fill-none}
+use Rattle.codes.specs.Answers.{soFar}
+use Rattle.cells.proofs.FillLaws.{fill-by-word, fill-plain, fill-none}
 use borrow.Author.Needs.{needs}
 use Rattle.cells.proofs.fill.fill_to.Statement.{statement}
 use Rattle.cells.proofs.fill.fill_to.Tie as tie

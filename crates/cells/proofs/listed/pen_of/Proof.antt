@@ -1,9 +1,0 @@
-use borrow.Author.Needs.{needs}
-use Rattle.cells.proofs.listed.pen_of.Statement.{statement}
-use Rattle.cells.proofs.listed.pen_of.Tie as tie
-
-returns : tie.Need-returns
-returns c = rw (c .words-ahead .ensures)
-
-pub pen-of-spec : {M : Type 1} → statement M
-pen-of-spec = tie.close (tie.spec (λ c. search needs) (λ c κs. search needs) returns)

@@ -1,0 +1,2 @@
+pub mod CodeBounds
+pub mod CodeLaws

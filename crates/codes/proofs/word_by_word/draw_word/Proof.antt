@@ -1,0 +1,84 @@
+use mathlib.Core.Path.{_≡_, refl, sym, _∙_}
+use mathlib.Core.List.{List, [], _∷_}
+use Prim.Native.Nat.{ℕ, _+_, _-_, _≤_}
+use native.Mathlib.Nat.{sub-zero}
+use native.Mathlib.Omega.{arith}
+use lib.ListN.{length, take, drop}
+use Rattle.memory.specs.Word.{high, low}
+use Rattle.memory.specs.Reading.{each, runFrom}
+use Rattle.codes.specs.Codes.{examine, wordCodes}
+use Rattle.codes.specs.Answers.{soFar}
+use Rattle.codes.proofs.CodeLaws.{bytes-none, bytes-refused, bytes-more}
+use borrow.Author.Needs.{needs}
+use Rattle.codes.proofs.word_by_word.draw_word.Statement.{statement}
+use Rattle.codes.proofs.word_by_word.draw_word.Tie as tie
+
+abbrev bytes : ℕ → List ℕ
+bytes w = high w ∷ low w ∷ []
+
+abbrev Inv-loop : tie.InvT-loop
+Inv-loop mem settings source end w n words cells₀ i₀ current₀ read₀ cells i current read =
+    (i ≤ n) × (length cells ≡ length cells₀) × (current .column ≤ end) × (read ≤ words + i)
+    × (runFrom words mem (wordCodes settings source end n w (soFar current₀ cells₀))
+    ≡ runFrom read mem (each (examine settings source end) (take (n - i) (drop i (bytes w))) (soFar current cells)))
+
+abbrev μ-loop : tie.MeasureT-loop
+μ-loop mem settings source end w n words cells₀ i₀ current₀ read₀ cells i current read = n - i
+
+loop-holds : tie.Need-loop-holds Inv-loop μ-loop
+unfolding wordCodes
+loop-holds c = (omega arith, refl, c .before .before .pre .1, omega arith, rw sub-zero)
+
+returns : tie.Need-returns Inv-loop μ-loop
+returns c =
+    let a = c .before .before .before .before .before .before .before .before .before .before .before .before .args in
+    let l = c .before .before .before .before .before .before .before .before .before .loop in (
+      (omega arith, omega arith),
+      sym (l .inv .4
+          ∙ bytes-refused (l .read) (a .mem .now) (a .settings) (a .source) (a .end) (bytes (a .w)) (a .n) (l .i) (soFar (l .current) (l .cells))
+          (c .before .before .before .before .before .before .before .before .loop-test .taken) (c .before .before .before .before .before .before .before .before .before .before .before .before .pre .2) (sym (rw (c .before .number .given .1, c .before .before .before .before .before .before .before .code-at .ensures) at (c .before .before .before .before .before .examine-code .ensures .1)))),
+    )
+
+loop-again : tie.Need-loop-again Inv-loop μ-loop
+loop-again c =
+    let a = c .before .before .before .before .before .before .before .before .before .before .before .before .args in
+    let l = c .before .before .before .before .before .before .before .before .before .loop in
+    let test = c .before .before .before .before .before .before .before .before .loop-test .taken in
+    let e = c .before .before .before .before .before .examine-code in
+    let h = rw (c .before .after .given .1) at (e .ensures .0) in (
+      omega arith,
+      e .kept .1 .1 .1 .1 .1 .1 .1 .0 ∙ l .inv .1,
+      h .0,
+      omega (arith, h .1, l .inv .3),
+      l .inv .4
+          ∙ bytes-more (l .read) (a .mem .now) (a .settings) (a .source) (a .end) (bytes (a .w)) (a .n) (l .i) (soFar (l .current) (l .cells))
+          test (c .before .before .before .before .before .before .before .before .before .before .before .before .pre .2) (sym (rw (c .before .after .given .1, c .before .before .before .before .before .before .before .code-at .ensures) at (e .ensures .1))),
+    )
+
+returns-2 : tie.Need-returns-2 Inv-loop μ-loop
+returns-2 c =
+    let a = c .before .before .before .before .args in
+    let l = c .before .loop in (
+      (l .inv .2, omega arith),
+      sym (l .inv .4
+          ∙ bytes-none (l .read) (a .mem .now) (a .settings) (a .source) (a .end) (bytes (a .w)) (a .n) (l .i) (soFar (l .current) (l .cells)) (omega arith)),
+    )
+
+pub draw-word-spec : {M : Type 1} → statement M
+draw-word-spec =
+    tie.close
+    (tie.spec
+    Inv-loop
+    μ-loop
+    loop-holds
+    (λ c κs. search needs)
+    (λ c κs. search needs)
+    (λ c. search needs)
+    (λ c. search needs)
+    returns
+    (λ c. search needs)
+    (λ c. search needs)
+    (λ c. search needs)
+    loop-again
+    (λ c. search needs)
+    returns-2)

@@ -1,0 +1,31 @@
+-- Document 01, "A row, left to right": attribute words, and the bits of a cell.
+use Prim.Native.Nat.{ℕ, _+_, _*_, _/_, _%_, _^_}
+use mathlib.Core.Bool.{Bool}
+use lib.Dec.{eqb}
+use lib.Bits.{bitAnd}
+use Rattle.memory.specs.Word.{bit, high, low}
+use Rattle.codes.specs.declared.Source.{Source}
+use Rattle.codes.specs.declared.Source.the-variants.{Fill, Background, Window}
+
+-- "A code invokes an attribute when it equals the value on every bit set in the mask": "mask high byte, value low byte"
+unfoldable pub invokes : ℕ → ℕ → Bool
+invokes flag code = eqb (bitAnd code (high flag)) (bitAnd (low flag) (high flag))
+
+-- "Bit 15 makes the word the latch"
+abbrev pub latches : ℕ → Bool
+latches w = bit 15 w
+
+-- "Bit 13, ignore, from word or latch, keeps the character out of the row"
+abbrev pub ignores : ℕ → Bool
+ignores w = bit 13 w
+
+-- "source (0 fill, 1 background, 2 window)"
+unfoldable pub sourceNumber : Source → ℕ
+sourceNumber Fill = 0
+sourceNumber Background = 1
+sourceNumber Window = 2
+
+-- "Cell bits: 7..0 code; 18..8 attribute bits 10..0; 19 attribute bit 14; 21..20 source". Bit 22 is `Row.withCursor`.
+unfoldable pub cell : Source → ℕ → ℕ → ℕ
+cell source attribute code =
+    code + attribute % 2 ^ 11 * 2 ^ 8 + attribute / 2 ^ 14 % 2 * 2 ^ 19 + sourceNumber source * 2 ^ 20

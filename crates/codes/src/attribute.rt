@@ -1,0 +1,40 @@
+// Attribute words, and the bits of a cell.
+use crate::Source;
+ghost use mathlib.Core.Path.{_≡_};
+ghost use mathlib.Core.Bool.{_||_, not};
+ghost use Prim.Native.Nat.{_≤_};
+ghost use Rattle.codes.specs.Attribute.{invokes, ignores, sourceNumber, cell};
+
+// Does the code invoke an attribute?
+pub fn invokes(flag: u16, code: u8) -> bool
+    ensures { λ r. ⌜ r ≡ invokes flag code ⌝ }
+{
+    let mask = memory::high_byte(flag);
+    code & mask == memory::low_byte(flag) & mask
+}
+
+// Does the attribute let its character into the row?
+pub fn is_shown(hidden: bool, attribute: u16) -> bool
+    ensures { λ r. ⌜ r ≡ hidden || not (ignores attribute) ⌝ }
+{
+    hidden | !memory::bit_13(attribute)
+}
+
+pub fn cell(source: Source, attribute: u16, code: u8) -> u32
+    ensures { λ r. ⌜ r ≡ cell source attribute code ⌝ }
+{
+    code as u32
+        + attribute as u32 % 2048 * 256
+        + attribute as u32 / 16384 % 2 * 524288
+        + source_number(source) * 1048576
+}
+
+fn source_number(source: Source) -> u32
+    ensures { λ r. ⌜ (r ≡ sourceNumber source) × (r ≤ 2) ⌝ }
+{
+    match source {
+        Source::Fill => 0,
+        Source::Background => 1,
+        Source::Window => 2,
+    }
+}

@@ -1,0 +1,31 @@
+// The codes of a segment: each takes its attribute and becomes a character of the row, unless it is ignored or dropped.
+pub mod attribute; // attribute words, and the bits of a cell
+pub mod pens; // where drawing stands
+pub mod word_by_word; // the codes of a segment, word by word
+
+// Where a cell comes from.
+pub enum Source {
+    Fill,
+    Background,
+    Window,
+}
+
+// The attribute list in use, at its next word; none where it is not present.
+pub struct AttributeList {
+    pub present: bool,
+    pub next: u32,
+}
+
+// Where drawing stands: the next column, the latch, whether a word of this row became the latch, and the list in use.
+pub struct Pen {
+    pub column: usize,
+    pub latch: u16,
+    pub latched: bool,
+    pub list: AttributeList,
+}
+
+// Where drawing went, with the words read so far; or the refusal that it met.
+pub enum Drawn {
+    Accepted { pen: Pen, words: u32 },
+    Refused { number: u8, address: u32 },
+}

@@ -1,0 +1,3 @@
+pub mod Layout
+pub mod Overlay
+pub mod Answers

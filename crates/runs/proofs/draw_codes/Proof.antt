@@ -1,0 +1,29 @@
+use mathlib.Core.Path.{sym, _∙_}
+use borrow.Author.Tests.{not-true, not-false}
+use borrow.Author.Needs.{needs}
+use Rattle.runs.proofs.draw_codes.Statement.{statement}
+use Rattle.runs.proofs.draw_codes.Tie as tie
+
+draw-without-list-requires : tie.Need-draw-without-list-requires
+draw-without-list-requires c κs = (c .before .before .before .before .before .before .before .pre, (not-true _ (c .before .if2 .taken), sym (c .before .before .before .before .is-run .ensures) ∙ c .before .before .before .if1 .taken))
+
+draw-with-list-requires : tie.Need-draw-with-list-requires
+draw-with-list-requires c κs =
+    (c .before .before .before .before .before .before .before .before .before .pre, (not-false _ (c .before .before .before .if2 .left), sym (c .before .before .before .before .before .before .is-run .ensures) ∙ c .before .before .before .before .before .if1 .taken, sym (c .before .before .is-run2 .ensures) ∙ c .before .if3 .taken))
+
+pub draw-codes-spec : {M : Type 1} → statement M
+draw-codes-spec =
+    tie.close
+    (tie.spec
+    (λ c. search needs)
+    (λ c κs. search needs)
+    draw-without-list-requires
+    (λ c. search needs)
+    (λ c. search needs)
+    (λ c κs. search needs)
+    draw-with-list-requires
+    (λ c. search needs)
+    (λ c. search needs)
+    (λ c κs. search needs)
+    (λ c. search needs)
+    (λ c. search needs))

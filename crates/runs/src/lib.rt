@@ -1,0 +1,63 @@
+// The codes of a segment, faster where their words stand one after the other in memory.
+use codes::Drawn;
+use codes::Pen;
+use codes::Source;
+use codes::word_by_word;
+use settings::Settings;
+ghost use mathlib.Core.Path.{_≡_};
+ghost use Prim.Native.Nat.{_+_, _*_, _≤_};
+ghost use lib.ListN.{length};
+ghost use Rattle.memory.specs.Reading.{runFrom};
+ghost use Rattle.codes.specs.Codes.{codes};
+ghost use Rattle.codes.specs.Answers.{soFar, drawn, Within};
+
+mod with_list; // the codes of a segment with a list
+mod without_list; // those of a segment without one
+
+// The codes of a segment: two to a word, the high byte first. Where its words stand one after the other in memory, and those of its
+// list too, as many as there are codes, none is missing and no address wraps.
+pub fn draw_codes(
+    mem: &[u16],
+    settings: Settings,
+    source: Source,
+    end: usize,
+    count: u32,
+    a: u32,
+    pen: Pen,
+    words: u32,
+    cells: &mut [u32],
+) -> Drawn
+    requires { ⌜ (end ≤ length (now cells)) × (pen .column ≤ end) × (count ≤ 255) × (words ≤ 4000000000) ⌝ }
+    ensures { λ r. ⌜ Within end (words + 2 * count) r ⌝ }
+    ensures { λ r. ⌜ drawn r (now (cells .exit)) ≡ runFrom words (now (mem .entry)) (codes settings source end count a (soFar pen (now (cells .entry)))) ⌝ }
+{
+    if memory::is_run(mem, settings.linear, a, (count as usize + 1) / 2) {
+        if !pen.list.present {
+            return without_list::draw_without_list(
+                mem,
+                settings,
+                source,
+                end,
+                count,
+                a,
+                pen,
+                words,
+                cells,
+            );
+        }
+        if memory::is_run(mem, settings.linear, pen.list.next, count as usize) {
+            return with_list::draw_with_list(
+                mem,
+                settings,
+                source,
+                end,
+                count,
+                a,
+                pen,
+                words,
+                cells,
+            );
+        }
+    }
+    word_by_word::draw_word_by_word(mem, settings, source, end, count, a, pen, words, cells)
+}

@@ -1,0 +1,30 @@
+-- Document 01, "Blocks": the state, and refusal 3, a state out of range.
+use Prim.Native.Nat.{ℕ, _+_}
+use mathlib.Core.Bool.{Bool, true, _&&_}
+use lib.Dec.{leb}
+use Rattle.memory.specs.Address.{isAddress}
+use Rattle.blocks.specs.declared.RowFormat.{RowFormat}
+use Rattle.blocks.specs.declared.WindowInHand.{WindowInHand}
+use Rattle.blocks.specs.declared.WindowInHand.the-variants.{Absent, Present}
+use Rattle.blocks.specs.Window.{inOrder}
+use Rattle.state.specs.declared.Fields.{Fields}
+use Rattle.state.specs.declared.State.{State}
+
+-- "The state holds the row number, lines left, latch, cursor, fill, scan lines, row attributes, CURS, CURE, next row block and
+-- the window in hand". The fields other than the latch stand apart: "A row's effect doesn't depend on the state's latch".
+abbrev pub stateOf : ℕ → Fields → State
+stateOf latch f = record { latch = latch; fields = f }
+
+-- "scan lines not 1..32, CURS or CURE > 31, row attributes > 1023"
+abbrev pub formatInRange : RowFormat → Bool
+formatInRange t = leb 1 (t .lines) && leb (t .lines) 32 && leb (t .curs) 31 && leb (t .cure) 31 && leb (t .attributes) 1023
+
+-- "window rows or columns out of order or range"
+unfoldable pub windowInRange : WindowInHand → Bool
+windowInRange Absent = true
+windowInRange (Present w) = inOrder (w .block) && isAddress (w .rows .address) && isAddress (w .block .link .address)
+
+-- Refusal 3: "state out of range: row + lines left > 4095, .."
+unfoldable pub inRange : Fields → Bool
+inRange f =
+    leb (f .row + f .left) 4095 && formatInRange (f .format) && isAddress (f .next .address) && windowInRange (f .window)
