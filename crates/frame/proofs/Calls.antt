@@ -12,8 +12,8 @@ use Rattle.memory.proofs.ReadBounds.{Words, reads-given}
 use Rattle.settings.specs.declared.Settings.{Settings}
 use Rattle.state.specs.declared.State.{State}
 use Rattle.row.specs.declared.DrawnRow.{DrawnRow}
-use Rattle.row.specs.Start.{startFrom, started}
-use Rattle.row.proofs.StartBound.{start-reads}
+use Rattle.start.specs.Start.{startFrom, started}
+use Rattle.start.proofs.StartBound.{start-reads}
 use Rattle.frame.specs.declared.Progress.{Progress}
 use Rattle.frame.specs.declared.BeginAnswer.the-variants as Begin
 use Rattle.frame.specs.declared.StepAnswer.{StepAnswer}

@@ -6,11 +6,11 @@ use Rattle.memory.specs.Word.{if_then_else_}
 use Rattle.memory.specs.Reading.{run}
 use Rattle.settings.specs.declared.Settings.{Settings}
 use Rattle.row.specs.declared.DrawnRow.{DrawnRow}
-use Rattle.row.specs.declared.StartAnswer.{StartAnswer}
-use Rattle.row.specs.declared.StartAnswer.the-variants as Start
+use Rattle.start.specs.declared.StartAnswer.{StartAnswer}
+use Rattle.start.specs.declared.StartAnswer.the-variants as Start
 use Rattle.row.specs.declared.RowAnswer.{RowAnswer}
 use Rattle.row.specs.declared.RowAnswer.the-variants as Row
-use Rattle.row.specs.Start.{startFrom, started}
+use Rattle.start.specs.Start.{startFrom, started}
 use Rattle.row.specs.Row.{Called, rowCall}
 use Rattle.frame.specs.declared.Progress.{Progress}
 use Rattle.frame.specs.declared.BeginAnswer.{BeginAnswer}

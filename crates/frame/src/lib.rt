@@ -1,10 +1,10 @@
 // A frame, row by row: its start, and its row calls until no line is left.
 use memory::Refusal;
-use state::State;
 use row::DrawnRow;
 use row::RowAnswer;
-use row::StartAnswer;
 use settings::Settings;
+use start::StartAnswer;
+use state::State;
 ghost use mathlib.Core.Path.{_≡_};
 ghost use Rattle.frame.specs.Step.{begin, stepped, step, inBound, boundWords, FewerLines};
 
@@ -14,6 +14,7 @@ pub struct Progress {
     pub words: u32,
 }
 
+// A frame in progress, or the refusal of its start.
 pub enum BeginAnswer {
     Begun(Progress),
     Refused(Refusal),
@@ -31,7 +32,7 @@ pub enum StepAnswer {
 pub fn begin(settings: Settings, mem: &[u16]) -> BeginAnswer
     ensures { λ r. ⌜ r ≡ begin 0 settings (now (mem .entry)) ⌝ }
 {
-    match row::start(settings, mem) {
+    match start::start(settings, mem) {
         StartAnswer::Refused(refusal) => BeginAnswer::Refused(refusal),
         StartAnswer::Accepted(started) => {
             let state = started.state;

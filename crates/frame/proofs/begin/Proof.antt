@@ -1,6 +1,6 @@
--- The answer of `row::start`, which is the start from latch 0, made into a frame in progress or handed up as a refusal.
+-- The answer of `start::start`, which is the start from latch 0, made into a frame in progress or handed up as a refusal.
 use mathlib.Core.Path.{ap}
-use Rattle.row.specs.Start.{startCall}
+use Rattle.start.specs.Start.{startCall}
 use Rattle.frame.specs.Step.{begun, begin}
 use borrow.Author.Needs.{needs}
 use Rattle.frame.proofs.begin.Statement.{statement}

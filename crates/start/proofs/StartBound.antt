@@ -3,24 +3,24 @@ use mathlib.Core.Path.{_≡_, refl}
 use mathlib.Core.Bool.{Bool, not}
 use Prim.Native.Nat.{ℕ}
 use lib.Dec.{lit≤}
-use Rattle.memory.specs.Address.{pointer}
+use Rattle.memory.specs.declared.Pointer.{Pointer}
+use Rattle.memory.specs.Address.{null}
 use Rattle.memory.proofs.ReadBounds.{Reads, dones, bind, check-reads, words-read}
 use Rattle.settings.specs.declared.Settings.{Settings}
-use Rattle.settings.specs.Good.{good}
+use Rattle.settings.specs.Good.{good, checkSettings}
 use Rattle.blocks.specs.Main.{mainBlockAt}
-use Rattle.blocks.specs.RowBlock.{null}
 use Rattle.blocks.specs.Window.{firstWindow}
 use Rattle.blocks.proofs.BlockBounds.{window-reads}
-use Rattle.row.specs.Start.{firstFields, windowStart, startFrom}
+use Rattle.start.specs.Start.{registered, firstFields, windowStart, startFrom}
 
-main-reads : (linear : Bool) (a : ℕ) → Reads (λ _. Unit {0}) 7 (mainBlockAt linear a)
+main-reads : (linear : Bool) (p : Pointer) → Reads (λ _. Unit {0}) 7 (mainBlockAt linear p)
 unfolding mainBlockAt
-main-reads linear a = bind {n = 7} {k = 0} (lit≤ tt) (words-read linear 7 a) λ _ _. dones tt
+main-reads linear p = bind {n = 7} {k = 0} (lit≤ tt) (words-read linear 7 p) λ _ _. dones tt
 
 pub start-reads : (latch : ℕ) (σ : Settings) → Reads (λ s. s .fields .row ≡ 0) 13 (startFrom latch σ)
-unfolding startFrom windowStart firstWindow firstFields
+unfolding startFrom checkSettings windowStart firstWindow firstFields
 start-reads latch σ =
-    let top = pointer (σ .linear) (σ .top .first) (σ .top .second) in
+    let top = registered (σ .linear) (σ .top) in
     bind {n = 0} {k = 13} (lit≤ tt) (check-reads 2 (good σ)) λ _ _.
     bind {n = 0} {k = 13} (lit≤ tt) (check-reads 6 (not (null top))) λ _ _.
     bind {n = 7} {k = 6} (lit≤ tt) (main-reads (σ .linear) top) λ _ _.

@@ -1,7 +1,8 @@
-use Rattle.row.specs.Start.{firstFields}
+-- Each field is the main block's or the frame's first; the lines are those for rows.
+use Rattle.start.specs.Start.{firstFields}
 use borrow.Author.Needs.{needs}
-use Rattle.row.proofs.first_fields.Statement.{statement}
-use Rattle.row.proofs.first_fields.Tie as tie
+use Rattle.start.proofs.first_fields.Statement.{statement}
+use Rattle.start.proofs.first_fields.Tie as tie
 
 returns : tie.Need-returns
 unfolding firstFields
