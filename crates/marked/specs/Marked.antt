@@ -8,13 +8,13 @@ use lib.ListN.{replicate, take, drop}
 use lib.Dec.{eqb}
 use lib.Count.{ones, onesIn}
 use Rattle.memory.specs.Reading.{_>>=_, each, Outcome, given, refused, runFrom, run}
-use Rattle.memory.specs.Address.{pointer, nextWord, ahead, words}
+use Rattle.memory.specs.Address.{to, pointer, nextWord, ahead, words}
 use Rattle.settings.specs.declared.Interlace.{Interlace}
 use Rattle.settings.specs.declared.Interlace.the-variants.{Progressive, RepeatField, Video}
 use Rattle.settings.specs.declared.Settings.{Settings}
 use Rattle.settings.specs.declared.SheetAnswer.{SheetAnswer}
 use Rattle.settings.specs.declared.SheetAnswer.the-variants as Sheet
-use Rattle.settings.specs.Good.{inRange, inOrder, fitsFields, fitsMode, good}
+use Rattle.settings.specs.Good.{inRange, inOrder, fitsFields, fitsMode, good, checkSettings}
 use Rattle.settings.specs.Sheet.{sheetOf, sheetCall}
 use Rattle.settings.specs.Timing.{clocks, halfLines, timing, linesIn, linesForRows, halved, invokingCodes}
 use Rattle.blocks.specs.declared.WindowInHand.{WindowInHand}
@@ -24,19 +24,19 @@ use Rattle.blocks.specs.RowBlock.{segmentOf, segmentsOf, restOfBlock, blockAt, 
 use Rattle.blocks.specs.Window as W
 use Rattle.state.specs.declared.Fields.{Fields}
 use Rattle.state.specs.declared.State.{State}
-use Rattle.row.specs.declared.StartAnswer.{StartAnswer}
-use Rattle.row.specs.declared.StartAnswer.the-variants as Start
+use Rattle.start.specs.declared.StartAnswer.{StartAnswer}
+use Rattle.start.specs.declared.StartAnswer.the-variants as Start
 use Rattle.row.specs.declared.RowAnswer.{RowAnswer}
 use Rattle.row.specs.declared.RowAnswer.the-variants as Answer
 use Rattle.state.specs.State as S
 use Rattle.codes.specs.Attribute.{invokes, sourceNumber, cell}
 use Rattle.layout.specs.Layout.{width, total, allFit, boundary, edgesFit, covered, onSide, segmentsOn}
 use Rattle.layout.specs.Overlay.{windowRow, overlaid}
-use Rattle.plan.specs.Plan.{nextFields, backgroundRow, plan}
+use Rattle.plan.specs.Plan.{nextFields, backgroundBlock, backgroundRow, plan}
 use Rattle.codes.specs.Codes.{taking, put, character, examine, wordCodes, codes}
 use Rattle.cells.specs.Cells.{filled, fillByWord, fillTo, segment, segmentsTo, rowCells}
 use Rattle.row.specs.Row.{Called, row, withCursor, rowCall}
-use Rattle.row.specs.Start.{firstFields, windowStart, startFrom, startCall}
+use Rattle.start.specs.Start.{firstFields, windowStart, startFrom, startCall}
 use Rattle.effect.specs.declared.Part.{Part}
 use Rattle.effect.specs.declared.Part.the-variants.{Keep, Set, Refuse}
 use Rattle.effect.specs.Effect.{outcomeFor, effectCall}
@@ -113,7 +113,7 @@ stateAt latch attributes left row w = S.stateOf latch (record {
   cursor = record { x = 0; y = 0 };
   fill = record { code = 0x20; flag = false };
   format = record { lines = 8; attributes = attributes; curs = 0; cure = 31 };
-  next = 0x20;
+  next = to 0x20;
   window = w;
 })
 
@@ -209,12 +209,13 @@ twelve = page 0 (0 ∷ 0 ∷ 0 ∷ 0 ∷ 0x303 ∷ 5 ∷ []) [] []
 
 -- a window on the rows n..n, columns 0 to right, without segments, whose next block is at `link`
 windowOn : ℕ → ℕ → ℕ → WindowInHand
-windowOn n right link = Present (record { top = n; bottom = n; left = 0; right = right; rows = 0; link = link })
+windowOn n right link =
+    Present (record { block = record { top = n; bottom = n; left = 0; right = right; link = to link }; rows = to 0 })
 
 inHand : Outcome WindowInHand → List ℕ
 inHand (given n Absent) = []
-inHand (given n (Present w)) = w .top ∷ w .bottom ∷ w .left ∷ w .right ∷ []
-inHand (refused n a) = n ∷ []
+inHand (given n (Present w)) = w .block .top ∷ w .block .bottom ∷ w .block .left ∷ w .block .right ∷ []
+inHand (refused x) = x .number ∷ []
 
 -- the lines left after a row, and the window in hand
 nextShown : Called → List ℕ
@@ -230,7 +231,7 @@ tests =
     -- P3, and the wrap at FFFFFE
     ∷ eqb (nextWord true 0xFFFE) 0x10000 ∷ eqb (nextWord false 0xFFFE) 0 ∷ eqb (nextWord true 0xFFFFFE) 0
     -- P4
-    ∷ eqb (pointer false 0x0123 0) 0x10000 ∷ eqb (pointer true 0x0123 0) 0x230000
+    ∷ eqb (pointer false 0x0123 0 .address) 0x10000 ∷ eqb (pointer true 0x0123 0 .address) 0x230000
     -- the start of S
     ∷ eqb (wordsOfStart (startCall sheetS memoryS)) 7
     -- P5
@@ -252,7 +253,7 @@ tests =
     ∷ same (shown (firstRow plain (two 32))) (0 ∷ 8 ∷ 0 ∷ 0 ∷ 31 ∷ 13 ∷ replicate 132 0x20)
     ∷ same (shown (firstRow plain (two 33))) (10 ∷ 0 ∷ 0 ∷ [])
     -- P12
-    ∷ same (inHand (run twelve (W.firstWindow true 0x20))) (3 ∷ 3 ∷ 0 ∷ 5 ∷ [])
+    ∷ same (inHand (run twelve (W.firstWindow true (to 0x20)))) (3 ∷ 3 ∷ 0 ∷ 5 ∷ [])
     ∷ same (shown (rowCall plain twelve (at 4 (windowOn 3 5 0x20)) buffer)) (8 ∷ 4 ∷ 0 ∷ [])
     -- the codes that invoke: 128 of S's, 32 of the mask E0, all 256 of the mask 0
     ∷ eqb (invokingCodes 0x8080) 128 ∷ eqb (invokingCodes 0xE000) 32 ∷ eqb (invokingCodes 0x00FF) 256
@@ -276,5 +277,5 @@ tests =
     ∷ []
 
 pub marked : every tests ≡ true
-unfolding same every shownAs shown cellsFrom partShown times settings sheetS memoryS stateAt at stateOfStart wordsOfStart stateAfter buffer firstRow clearPart setPart row0 row1 oddRow padded page one two plain video nine ten twelve windowOn inHand nextShown tests _>>=_ each runFrom pointer nextWord ahead words good timing linesForRows clocks halved invokingCodes sheetOf sheetCall ones onesIn mainBlock mainBlockAt segmentOf segmentsOf restOfBlock blockAt rowBlockAt windowRowAt formatOf redefined W.windowOf W.windowAt W.firstWindow W.dueWindow S.windowInRange S.inRange invokes sourceNumber cell width total allFit boundary edgesFit covered onSide segmentsOn windowRow overlaid nextFields backgroundRow plan taking put character examine wordCodes codes filled fillByWord fillTo segment segmentsTo rowCells row withCursor rowCall firstFields windowStart startFrom startCall outcomeFor effectCall
+unfolding same every shownAs shown cellsFrom partShown times settings sheetS memoryS stateAt at stateOfStart wordsOfStart stateAfter buffer firstRow clearPart setPart row0 row1 oddRow padded page one two plain video nine ten twelve windowOn inHand nextShown tests _>>=_ each runFrom pointer nextWord ahead words good checkSettings timing linesForRows clocks halved invokingCodes sheetOf sheetCall ones onesIn mainBlock mainBlockAt segmentOf segmentsOf restOfBlock blockAt rowBlockAt windowRowAt formatOf redefined W.windowOf W.windowAt W.firstWindow W.dueWindow S.windowInRange S.inRange invokes sourceNumber cell width total allFit boundary edgesFit covered onSide segmentsOn windowRow overlaid nextFields backgroundBlock backgroundRow plan taking put character examine wordCodes codes filled fillByWord fillTo segment segmentsTo rowCells row withCursor rowCall firstFields windowStart startFrom startCall outcomeFor effectCall
 marked = refl

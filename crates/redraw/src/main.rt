@@ -5,8 +5,8 @@ use effect::Applied;
 use effect::Effect;
 use effect::NextFields;
 use row::RowAnswer;
-use row::StartAnswer;
 use settings::Settings;
+use start::StartAnswer;
 use state::Fields;
 use state::State;
 ghost use mathlib.Core.Path.{_≡_};
@@ -41,7 +41,7 @@ fn main() {
 fn redraw_frame(n: u16, mem: &[u16], count: report::Count) -> report::Count {
     report::frame(n);
     let settings = frames::settings(n);
-    match row::start(settings, mem) {
+    match start::start(settings, mem) {
         StartAnswer::Refused(r) => {
             report::refused(r);
             count

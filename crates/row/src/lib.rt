@@ -77,9 +77,7 @@ fn draw_planned(
         p.words,
         &mut cells,
     ) {
-        CellsDrawn::Refused { number, address } => {
-            RowAnswer::Refused(refusal(fields.row, number, address))
-        }
+        CellsDrawn::Refused(fault) => RowAnswer::Refused(memory::refusal_of(fields.row, fault)),
         CellsDrawn::Accepted {
             latch,
             latched: _,

@@ -1,2 +1,2 @@
-pub mod StartLaws
+mod StartLaws
 pub mod StartBound

@@ -11,11 +11,11 @@ use Rattle.settings.specs.declared.SheetAnswer.{SheetAnswer}
 use Rattle.settings.specs.declared.SheetAnswer.the-variants as Sheet
 use Rattle.settings.specs.Sheet.{sheetCall}
 use Rattle.state.specs.declared.State.{State}
-use Rattle.row.specs.declared.StartAnswer.{StartAnswer}
-use Rattle.row.specs.declared.StartAnswer.the-variants as Start
+use Rattle.start.specs.declared.StartAnswer.{StartAnswer}
+use Rattle.start.specs.declared.StartAnswer.the-variants as Start
 use Rattle.row.specs.declared.RowAnswer.{RowAnswer}
 use Rattle.row.specs.declared.RowAnswer.the-variants as Row
-use Rattle.row.specs.Start.{startCall}
+use Rattle.start.specs.Start.{startCall}
 use Rattle.row.specs.Row.{Called, rowCall}
 use Rattle.numbers.specs.declared.decode.SettingsIn.{SettingsIn}
 use Rattle.numbers.specs.declared.decode.SettingsIn.the-variants as Settings-in

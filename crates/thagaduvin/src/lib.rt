@@ -6,14 +6,14 @@ use numbers::decode::SettingsIn;
 use numbers::decode::StateIn;
 use numbers::encode;
 use row::RowAnswer;
-use row::StartAnswer;
 use settings::Settings;
 use settings::SheetAnswer;
+use start::StartAnswer;
 use state::State;
 ghost use mathlib.Core.Path.{_≡_};
 ghost use lib.ListN.{length};
 ghost use Rattle.settings.specs.Sheet.{sheetCall};
-ghost use Rattle.row.specs.Start.{startCall};
+ghost use Rattle.start.specs.Start.{startCall};
 ghost use Rattle.row.specs.Row.{rowCall};
 ghost use Rattle.thagaduvin.specs.Calls.{answered, afterSheet, hostSheet, stated, afterStart, hostStart, drawn, afterRow, hostRow};
 
@@ -95,7 +95,7 @@ fn start(settings: Settings, memory: &[u16], state: &mut [u32], answer: &mut [u3
     requires { ⌜ (length (now state) ≡ 19) × (length (now answer) ≡ 3) ⌝ }
     ensures { λ r. ⌜ stated r (now (state .exit)) (now (answer .exit)) ≡ afterStart (now (state .entry)) (now (answer .entry)) (startCall settings (now (memory .entry))) ⌝ }
 {
-    match row::start(settings, memory) {
+    match start::start(settings, memory) {
         StartAnswer::Accepted(s) => {
             let first = s.state;
             encode::write_state(first, state);
