@@ -9,16 +9,16 @@ use lib.ListN.{length, drop}
 use lib.Seq.{getD-drop}
 use lib.Dec.{ltb, leb, lit≤}
 use borrow.Author.Tests.{leb-true}
-use Rattle.memory.specs.Word.{if_then_else_, bit}
-use Rattle.memory.specs.Address.{ahead}
+use Rattle.memory.specs.declared.Pointer.{Pointer}
+use Rattle.memory.specs.Word.{if_then_else_, bit, at}
+use Rattle.memory.specs.Address.{null, further}
 use Rattle.memory.proofs.ReadBounds.{Words, Reads, dones, weaken, bind, check-reads, if-reads, both, words-read}
 use Rattle.blocks.specs.declared.Segment.{Segment}
 use Rattle.blocks.specs.declared.RowFormat.{RowFormat}
-use Rattle.blocks.specs.declared.Window.{Window}
+use Rattle.blocks.specs.declared.WindowBlock.{WindowBlock}
 use Rattle.blocks.specs.declared.WindowInHand.{WindowInHand}
 use Rattle.blocks.specs.declared.WindowInHand.the-variants.{Absent, Present}
-use Rattle.blocks.specs.Main.{at}
-use Rattle.blocks.specs.RowBlock.{formatOf, null, segmentOf, segmentsOf, restOfBlock, blockAt, rowBlockAt, windowRowAt, redefined}
+use Rattle.blocks.specs.RowBlock.{formatOf, segmentOf, segmentsOf, restOfBlock, blockAt, rowBlockAt, windowRowAt, redefined}
 use Rattle.blocks.specs.Window.{windowOf, inOrder, windowAt, dueWindow}
 
 -- ---- row blocks ----
@@ -37,67 +37,71 @@ segments-short linear (suc n) b h =
     let rest = segments-short linear n (drop 5 b) (λ i. rw (getD-drop 5 b i 0) (h (5 + i))) in
     ((omega (arith, h 4), rest .0), omega arith)
 
-rest-reads : (linear : Bool) (a : ℕ) (head : List ℕ) (pointed : ℕ)
-    → Reads (λ b. Few 15 (b .segments)) (75 + pointed) (restOfBlock linear a head pointed)
+rest-reads : (linear : Bool) (p : Pointer) (head : List ℕ) (pointed : ℕ)
+    → Reads (λ b. Few 15 (b .segments)) (75 + pointed) (restOfBlock linear p head pointed)
 unfolding restOfBlock
-rest-reads linear a head pointed =
+rest-reads linear p head pointed =
     let n = at head 2 % 16 in
-    bind {n = pointed} {k = 75} (omega arith) (words-read linear pointed (ahead linear 3 a)) λ re _.
-    bind {n = 5 * n} {k = 0} (omega arith) (words-read linear (5 * n) (ahead linear (3 + pointed) a)) λ gs h.
+    bind {n = pointed} {k = 75} (omega arith) (words-read linear pointed (further linear 3 p)) λ re _.
+    bind {n = 5 * n} {k = 0} (omega arith) (words-read linear (5 * n) (further linear (3 + pointed) p)) λ gs h.
     let few = segments-short linear n gs (h .0) in
     dones (few .0, omega arith)
 
-pub block-reads : (linear redefines : Bool) (a : ℕ)
-    → Reads (λ b. Few 15 (b .segments)) (78 + (if redefines then 2 else 0)) (blockAt linear redefines a)
+pub block-reads : (linear redefines : Bool) (p : Pointer)
+    → Reads (λ b. Few 15 (b .segments)) (78 + (if redefines then 2 else 0)) (blockAt linear redefines p)
 unfolding blockAt
-block-reads linear redefines a =
-    if-reads (null a) (λ _. dones (tt, zero-le)) λ _.
-    bind {n = 3} {k = 75 + (if redefines then 2 else 0)} (omega arith) (words-read linear 3 a) λ head _.
-    weaken (pointed redefines (bit 15 (at head 2))) (rest-reads linear a head _)
+block-reads linear redefines p =
+    if-reads (null p) (λ _. dones (tt, zero-le)) λ _.
+    bind {n = 3} {k = 75 + (if redefines then 2 else 0)} (omega arith) (words-read linear 3 p) λ head _.
+    weaken (pointed redefines (bit 15 (at head 2))) (rest-reads linear p head _)
   where
     pointed : (r b : Bool) → 75 + (if r && b then 2 else 0) ≤ 75 + (if r then 2 else 0)
     pointed true true = le-refl 77
     pointed true false = lit≤ tt
     pointed false b = le-refl 75
 
-pub row-block-reads : (linear : Bool) (a : ℕ) → Reads (λ b. Few 15 (b .segments)) 80 (rowBlockAt linear a)
+pub row-block-reads : (linear : Bool) (p : Pointer) → Reads (λ b. Few 15 (b .segments)) 80 (rowBlockAt linear p)
 unfolding rowBlockAt
-row-block-reads linear a = block-reads linear true a
+row-block-reads linear p = block-reads linear true p
 
-pub window-row-reads : (linear : Bool) (a : ℕ) → Reads (λ b. Few 15 (b .segments)) 78 (windowRowAt linear a)
+pub window-row-reads : (linear : Bool) (p : Pointer) → Reads (λ b. Few 15 (b .segments)) 78 (windowRowAt linear p)
 unfolding windowRowAt
-window-row-reads linear a = block-reads linear false a
+window-row-reads linear p = block-reads linear false p
 
 -- ---- redefinitions ----
 -- a row that has a scan line has one redefined
-pub redefined-reads : (linear : Bool) (a : ℕ) (format : RowFormat)
-    → Reads (λ t. 1 ≤ format .lines → 1 ≤ t .lines) 3 (redefined linear a format)
+pub redefined-reads : (linear : Bool) (p : Pointer) (format : RowFormat)
+    → Reads (λ t. 1 ≤ format .lines → 1 ≤ t .lines) 3 (redefined linear p format)
 unfolding redefined formatOf
-redefined-reads linear a format =
-    if-reads (null a) (λ _. dones (λ h. h)) λ _. bind {n = 3} {k = 0} (omega arith) (words-read linear 3 a) λ _ _. dones (λ _. omega arith)
+redefined-reads linear p format =
+    if-reads (null p) (λ _. dones (λ h. h)) λ _. bind {n = 3} {k = 0} (omega arith) (words-read linear 3 p) λ _ _. dones (λ _. omega arith)
 
 -- ---- windows ----
+abbrev pub Ordered : WindowBlock → Type 0
+Ordered b = (b .top ≤ b .bottom) × (b .left ≤ b .right) × (b .right ≤ 131)
+
 abbrev pub Placed : WindowInHand → Type 0
 Placed Absent = Unit
-Placed (Present w) = (w .top ≤ w .bottom) × (w .left ≤ w .right) × (w .right ≤ 131)
+Placed (Present w) = Ordered (w .block)
 
-pub in-order : (w : Window) → inOrder w ≡ true → Placed (Present w)
+pub in-order : (b : WindowBlock) → inOrder b ≡ true → Ordered b
 unfolding inOrder
-in-order w h =
-    let k = both (leb (w .top) (w .bottom) && leb (w .left) (w .right)) (leb (w .right) 131) h in
-    let i = both (leb (w .top) (w .bottom)) (leb (w .left) (w .right)) (k .0) in
-    omega (arith, leb-true (w .top) (w .bottom) (i .0), leb-true (w .left) (w .right) (i .1), leb-true (w .right) 131 (k .1))
+in-order b h =
+    let k = both (leb (b .top) (b .bottom) && leb (b .left) (b .right)) (leb (b .right) 131) h in
+    let i = both (leb (b .top) (b .bottom)) (leb (b .left) (b .right)) (k .0) in
+    omega (arith, leb-true (b .top) (b .bottom) (i .0), leb-true (b .left) (b .right) (i .1), leb-true (b .right) 131 (k .1))
 
-pub window-reads : (linear : Bool) (least a : ℕ) → Reads Placed 6 (windowAt linear least a)
+pub window-reads : (linear : Bool) (least : ℕ) (p : Pointer) → Reads Placed 6 (windowAt linear least p)
 unfolding windowAt
-window-reads linear least a =
-    if-reads (null a) (λ _. dones tt) λ _.
-    bind {n = 6} {k = 0} (omega arith) (words-read linear 6 a) λ b _.
-    let w = windowOf linear b in
+window-reads linear least p =
+    if-reads (null p) (λ _. dones tt) λ _.
+    bind {n = 6} {k = 0} (omega arith) (words-read linear 6 p) λ b _.
+    let w = windowOf linear b .block in
     bind {n = 0} {k = 0} (omega arith) (check-reads 8 (inOrder w && leb least (w .top))) λ _ h.
     dones (in-order w (both (inOrder w) (leb least (w .top)) h .0))
 
 pub due-reads : (linear : Bool) (row : ℕ) (w : WindowInHand) → Placed w → Reads Placed 6 (dueWindow linear row w)
 unfolding dueWindow
 due-reads linear row Absent h = dones tt
-due-reads linear row (Present w) h = if-reads (ltb (w .bottom) row) (λ _. window-reads linear (w .bottom + 1) (w .link)) (λ _. dones h)
+due-reads linear row (Present w) h =
+    if-reads (ltb (w .block .bottom) row) (λ _. window-reads linear (w .block .bottom + 1) (w .block .link)) (λ _. dones h)

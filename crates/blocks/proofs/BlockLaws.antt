@@ -7,14 +7,16 @@ use native.Mathlib.Nat.{add-zero}
 use native.Mathlib.Omega.{arith}
 use lib.ListN.{length, drop, length-drop, List·getD-append}
 use lib.Seq.{drop-append-le, drop-drop, getD-drop}
-use Rattle.memory.specs.Word.{high, low}
+use Rattle.memory.specs.Word.{high, low, at}
+use Rattle.memory.specs.declared.Fault.{Fault}
+use Rattle.memory.specs.declared.Pointer.{Pointer}
 use Rattle.memory.specs.declared.WordsRead.{WordsRead}
-use Rattle.memory.specs.declared.WordsRead.the-variants.{Whole, Missing}
+use Rattle.memory.specs.declared.WordsRead.the-variants.{Whole, Refused}
 use Rattle.memory.specs.Reading.{_>>=_, given, refused, runFrom, run}
-use Rattle.memory.specs.Address.{pointer, ahead, words, wordsRead}
+use Rattle.memory.specs.Address.{to, pointer, further, words}
+use Rattle.memory.specs.Answers.{wordsRead}
 use Rattle.memory.proofs.Laws.{step-given, step-refused, run-done}
-use Rattle.memory.proofs.WordLaws.{read-whole, read-missing}
-use Rattle.blocks.specs.Main.{at}
+use Rattle.memory.proofs.WordLaws.{read-whole, read-refused}
 use Rattle.blocks.specs.RowBlock.{segmentOf, segmentsOf, segmentsFrom, restOfBlock}
 
 segment-prefix : (l : Bool) (ys zs : List ℕ) → 5 ≤ length ys → segmentOf l (ys ++ zs) ≡ segmentOf l ys
@@ -58,37 +60,37 @@ pub segment-at : (l : Bool) (k : ℕ) (ws : List ℕ) → segmentOf l (drop k ws
 unfolding segmentOf
 segment-at l k ws = simp (getD-drop, add-zero)
 
-no-pointer : (l : Bool) → pointer l 0 0 ≡ 0
+no-pointer : (l : Bool) → pointer l 0 0 ≡ to 0
 unfolding pointer
 no-pointer true = refl
 no-pointer false = refl
 
-pub segment-none : (l : Bool) → segmentOf l [] ≡ record { codes = 0; attributes = 0; length = 0; visible = 0 }
+pub segment-none : (l : Bool) → segmentOf l [] ≡ record { codes = to 0; attributes = to 0; length = 0; visible = 0 }
 unfolding segmentOf
 segment-none l = rw (no-pointer l)
 
 -- what `read_words` says, of n segments: k words, of which there are more in the slice
-module _ (w : ℕ) (m : List ℕ) (l : Bool) (head : List ℕ) (re a n k : ℕ) (count : n ≡ at head 2 % 16) (size : k ≡ 5 * n)
-    (r : WordsRead) (ys zs : List ℕ) (e : wordsRead r ys ≡ run m (words l k a)) where
+module _ (w : ℕ) (m : List ℕ) (l : Bool) (head : List ℕ) (re p : Pointer) (n k : ℕ) (count : n ≡ at head 2 % 16) (size : k ≡ 5 * n)
+    (r : WordsRead) (ys zs : List ℕ) (e : wordsRead r ys ≡ run m (words l k p)) where
   five : k ≡ 5 * (at head 2 % 16)
   five = size ∙ ap (λ (i : ℕ). 5 * i) count
 
-  asked : wordsRead r ys ≡ run m (words l (5 * (at head 2 % 16)) a)
-  asked = e ∙ ap (λ (i : ℕ). run m (words l i a)) five
+  asked : wordsRead r ys ≡ run m (words l (5 * (at head 2 % 16)) p)
+  asked = e ∙ ap (λ (i : ℕ). run m (words l i p)) five
 
-  pub segments-whole : (link : ℕ) → link ≡ pointer l (at head 0) (at head 1) → r ≡ Whole → length ys ≡ k
+  pub segments-whole : (link : Pointer) → link ≡ pointer l (at head 0) (at head 1) → r ≡ Whole → length ys ≡ k
       → given (w + 5 * n) (record { link = link; redefinition = re; segments = segmentsOf l n (ys ++ zs) })
-      ≡ runFrom w m (segmentsFrom l head re a)
-  segments-whole link p h len =
-      rw (segments-prefix l n ys zs (omega arith), p, count)
-      (sym (step-given w m (words l (5 * (at head 2 % 16)) a) _ (read-whole m l _ a r ys asked h (len ∙ five)) ∙ run-done _ _ _))
+      ≡ runFrom w m (segmentsFrom l head re p)
+  segments-whole link q h len =
+      rw (segments-prefix l n ys zs (omega arith), q, count)
+      (sym (step-given w m (words l (5 * (at head 2 % 16)) p) _ (read-whole m l _ p r ys asked h (len ∙ five)) ∙ run-done _ _ _))
 
-  pub segments-missing : (missing : ℕ) → r ≡ Missing missing → refused 7 missing ≡ runFrom w m (segmentsFrom l head re a)
-  segments-missing missing h =
-      sym (step-refused w m (words l (5 * (at head 2 % 16)) a) _ (read-missing m l _ a r ys asked h))
+  pub segments-refused : (x : Fault) → r ≡ Refused x → refused x ≡ runFrom w m (segmentsFrom l head re p)
+  segments-refused x h =
+      sym (step-refused w m (words l (5 * (at head 2 % 16)) p) _ (read-refused m l _ p r ys asked h))
 
 -- a block without a redefinition pointer
-pub plain-block : (w : ℕ) (m : List ℕ) (l : Bool) (a : ℕ) (head : List ℕ)
-    → runFrom w m (restOfBlock l a head 0) ≡ runFrom w m (segmentsFrom l head 0 (ahead l 3 a))
+pub plain-block : (w : ℕ) (m : List ℕ) (l : Bool) (p : Pointer) (head : List ℕ)
+    → runFrom w m (restOfBlock l p head 0) ≡ runFrom w m (segmentsFrom l head (to 0) (further l 3 p))
 unfolding restOfBlock words _>>=_
-plain-block w m l a head = ap (λ (re : ℕ). runFrom w m (segmentsFrom l head re (ahead l 3 a))) (no-pointer l)
+plain-block w m l p head = ap (λ (re : Pointer). runFrom w m (segmentsFrom l head re (further l 3 p))) (no-pointer l)

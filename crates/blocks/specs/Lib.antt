@@ -1,3 +1,4 @@
 pub mod Main
 pub mod RowBlock
 pub mod Window
+pub mod Answers

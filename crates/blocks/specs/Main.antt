@@ -2,17 +2,11 @@
 use Prim.Native.Nat.{ℕ, _+_, _%_}
 use mathlib.Core.Bool.{Bool}
 use mathlib.Core.List.{List}
-use lib.ListN.{getD}
-use Rattle.memory.specs.Word.{bit, high, low}
-use Rattle.memory.specs.Reading.{Reading, done, _>>=_, Outcome, given, refused}
+use Rattle.memory.specs.Word.{bit, high, low, at}
+use Rattle.memory.specs.declared.Pointer.{Pointer}
+use Rattle.memory.specs.Reading.{Reading, done, _>>=_}
 use Rattle.memory.specs.Address.{pointer, words}
 use Rattle.blocks.specs.declared.MainBlock.{MainBlock}
-use Rattle.blocks.specs.declared.MainRead.{MainRead}
-use Rattle.blocks.specs.declared.MainRead.the-variants.{Read, Missing}
-
--- word k of a block
-abbrev pub at : List ℕ → ℕ → ℕ
-at b k = getD b k 0
 
 -- "low five bits plus 1 scan lines per row"
 abbrev pub scanLines : ℕ → ℕ
@@ -25,15 +19,11 @@ mainBlock linear b = record {
   rows = pointer linear (at b 0) (at b 1);
   cursor = record { x = high (at b 2); y = low (at b 2) };
   fill = record { code = low (at b 3); flag = bit 8 (at b 3) };
+  m4 = at b 4;
   lines = scanLines (at b 6);
 }
 
-unfoldable pub mainBlockAt : Bool → ℕ → Reading MainBlock
-mainBlockAt linear a = do
-  b ← words linear 7 a
+unfoldable pub mainBlockAt : Bool → Pointer → Reading MainBlock
+mainBlockAt linear p = do
+  b ← words linear 7 p
   done (mainBlock linear b)
-
--- the answer of `main_block` as an outcome
-abbrev pub mainRead : MainRead → Outcome MainBlock
-mainRead (Read m) = given 7 m
-mainRead (Missing a) = refused 7 a

@@ -1,15 +1,18 @@
 // The blocks in memory: main, row, redefinition, window and window row.
+use memory::Fault;
+use memory::Pointer;
 use memory::WordsRead;
 ghost use mathlib.Core.Path.{_≡_};
 ghost use mathlib.Core.Bool.{_&&_};
-ghost use Prim.Native.Nat.{_≤_, _%_};
-ghost use lib.ListN.{length};
+ghost use Prim.Native.Nat.{_*_, _≤_, _%_};
+ghost use lib.ListN.{length, drop};
 ghost use lib.Dec.{leb};
 ghost use Rattle.memory.specs.Word.{bit};
 ghost use Rattle.memory.specs.Reading.{run, runFrom};
-ghost use Rattle.blocks.specs.Main.{mainBlock, mainBlockAt, mainRead};
-ghost use Rattle.blocks.specs.RowBlock.{segmentsFrom, restOfBlock, blockAt, rowBlockAt, windowRowAt, blockRead, formatOf, redefined, formatRead};
-ghost use Rattle.blocks.specs.Window.{windowOf, inOrder, windowAt, firstWindow, dueWindow, windowRead};
+ghost use Rattle.blocks.specs.Main.{mainBlock, mainBlockAt};
+ghost use Rattle.blocks.specs.RowBlock.{segmentOf, segmentsFrom, restOfBlock, blockAt, rowBlockAt, windowRowAt, formatOf, redefined};
+ghost use Rattle.blocks.specs.Window.{windowOf, inOrder, windowAt, firstWindow, dueWindow};
+ghost use Rattle.blocks.specs.Answers.{mainRead, blockRead, formatRead, windowRead};
 
 // The absolute cursor's place.
 pub struct Cursor {
@@ -23,17 +26,19 @@ pub struct FillMode {
     pub flag: bool,
 }
 
+// The main block: the first row block, the cursor, the fill, M4, and the scan lines per row.
 pub struct MainBlock {
-    pub rows: u32,
+    pub rows: Pointer,
     pub cursor: Cursor,
     pub fill: FillMode,
+    pub m4: u16,
     pub lines: u8,
 }
 
 // A segment of a row: code pointer, attribute pointer, length L and visible V.
 pub struct Segment {
-    pub codes: u32,
-    pub attributes: u32,
+    pub codes: Pointer,
+    pub attributes: Pointer,
     pub length: u8,
     pub visible: u8,
 }
@@ -46,14 +51,19 @@ pub struct RowFormat {
     pub cure: u8,
 }
 
-// A window: its rows and columns, first and last, its next row block and the next window block.
-pub struct Window {
+// What a window keeps while it is in hand: its rows and columns, first and last, and the next window block.
+pub struct WindowBlock {
     pub top: u8,
     pub bottom: u8,
     pub left: u8,
     pub right: u8,
-    pub rows: u32,
-    pub link: u32,
+    pub link: Pointer,
+}
+
+// A window: its block, and its next row block.
+pub struct Window {
+    pub block: WindowBlock,
+    pub rows: Pointer,
 }
 
 // The window in hand, or that there is none.
@@ -62,81 +72,92 @@ pub enum WindowInHand {
     Present(Window),
 }
 
+// A main block, or the refusal of its reading.
 pub enum MainRead {
     Read(MainBlock),
-    Missing(u32),
+    Refused(Fault),
 }
 
 // A row block but for its segments: link, redefinition pointer, count of segments, and the words read.
 pub struct BlockHead {
-    pub link: u32,
-    pub redefinition: u32,
+    pub link: Pointer,
+    pub redefinition: Pointer,
     pub count: u8,
     pub words: u32,
 }
 
+// A row block or a window row block, or the refusal of its reading.
 pub enum BlockRead {
     Read(BlockHead),
-    Missing(u32),
+    Refused(Fault),
 }
 
+// The format of a row with the words read for it, or a refusal.
 pub enum FormatRead {
     Read { format: RowFormat, words: u32 },
-    Missing(u32),
+    Refused(Fault),
 }
 
+// The window in hand with the words read for it, or a refusal.
 pub enum WindowRead {
     Read { window: WindowInHand, words: u32 },
-    Refused { number: u8, address: u32 },
+    Refused(Fault),
 }
 
-// The main block at the address `a`: 7 words.
-pub fn main_block(mem: &[u16], linear: bool, a: u32) -> MainRead
-    ensures { λ r. ⌜ mainRead r ≡ run (now (mem .entry)) (mainBlockAt linear a) ⌝ }
+// The main block that a pointer leads to: 7 words.
+pub fn main_block(mem: &[u16], linear: bool, p: Pointer) -> MainRead
+    ensures { λ r. ⌜ mainRead r ≡ run (now (mem .entry)) (mainBlockAt linear p) ⌝ }
 {
     let mut b = [0u16; 7];
-    match memory::read_words(mem, linear, a, &mut b) {
+    match memory::read_words(mem, linear, p, &mut b) {
         WordsRead::Whole => MainRead::Read(main_block_of(linear, &b)),
-        WordsRead::Missing(at) => MainRead::Missing(at),
+        WordsRead::Refused(fault) => MainRead::Refused(fault),
     }
 }
 
-// What a redefinition at the address `a` makes of a format; nothing where `a` is null.
-pub fn redefinition(mem: &[u16], linear: bool, a: u32, format: RowFormat) -> FormatRead
-    ensures { λ r. ⌜ formatRead r ≡ run (now (mem .entry)) (redefined linear a format) ⌝ }
+// What the redefinition that a pointer leads to makes of a format; nothing where the pointer is null.
+pub fn redefinition(mem: &[u16], linear: bool, p: Pointer, format: RowFormat) -> FormatRead
+    ensures { λ r. ⌜ formatRead r ≡ run (now (mem .entry)) (redefined linear p format) ⌝ }
 {
-    if a == 0 {
+    if p.address == 0 {
         return FormatRead::Read { format, words: 0 };
     }
     let mut b = [0u16; 3];
-    match memory::read_words(mem, linear, a, &mut b) {
+    match memory::read_words(mem, linear, p, &mut b) {
         WordsRead::Whole => FormatRead::Read {
             format: format_of(&b),
             words: 3,
         },
-        WordsRead::Missing(at) => FormatRead::Missing(at),
+        WordsRead::Refused(fault) => FormatRead::Refused(fault),
     }
 }
 
-// The row block at the address `a`, with the words of its segments in `segments`.
-pub fn row_block(mem: &[u16], linear: bool, a: u32, segments: &mut [u16; 75]) -> BlockRead
-    ensures { λ r. ⌜ blockRead linear r (now (segments .exit)) ≡ run (now (mem .entry)) (rowBlockAt linear a) ⌝ }
+// The row block that a pointer leads to, with the words of its segments in `segments`.
+pub fn row_block(mem: &[u16], linear: bool, p: Pointer, segments: &mut [u16; 75]) -> BlockRead
+    ensures { λ r. ⌜ blockRead linear r (now (segments .exit)) ≡ run (now (mem .entry)) (rowBlockAt linear p) ⌝ }
 {
-    block_at(mem, linear, true, a, segments)
+    block_at(mem, linear, true, p, segments)
 }
 
-// The window row block at the address `a`, with the words of its segments in `segments`.
-pub fn window_row_block(mem: &[u16], linear: bool, a: u32, segments: &mut [u16; 75]) -> BlockRead
-    ensures { λ r. ⌜ blockRead linear r (now (segments .exit)) ≡ run (now (mem .entry)) (windowRowAt linear a) ⌝ }
+// The window row block that a pointer leads to, with the words of its segments in `segments`.
+pub fn window_row_block(mem: &[u16], linear: bool, p: Pointer, segments: &mut [u16; 75]) -> BlockRead
+    ensures { λ r. ⌜ blockRead linear r (now (segments .exit)) ≡ run (now (mem .entry)) (windowRowAt linear p) ⌝ }
 {
-    block_at(mem, linear, false, a, segments)
+    block_at(mem, linear, false, p, segments)
 }
 
-// The first window, from its block's address.
-pub fn first_window(mem: &[u16], linear: bool, a: u32) -> WindowRead
-    ensures { λ r. ⌜ windowRead r ≡ run (now (mem .entry)) (firstWindow linear a) ⌝ }
+// Segment `i` of the words of 15; one of zeros past them.
+pub fn segment_at(linear: bool, words: &[u16; 75], i: usize) -> Segment
+    ensures { λ r. ⌜ r ≡ segmentOf linear (drop (5 * i) (now (words .entry))) ⌝ }
 {
-    window_at(mem, linear, 0, a)
+    segment_in(linear, words, i)
+}
+
+// The first window, from the pointer to its block.
+pub fn first_window(mem: &[u16], linear: bool, p: Pointer) -> WindowRead
+    ensures { λ r. ⌜ windowRead r ≡ run (now (mem .entry)) (firstWindow linear p) ⌝ }
+{
+    window_at(mem, linear, 0, p)
 }
 
 // The window in hand for a row: the next one where the row has passed the last row of this one.
@@ -149,8 +170,9 @@ pub fn due_window(mem: &[u16], linear: bool, row: u16, in_hand: WindowInHand) ->
             words: 0,
         },
         WindowInHand::Present(w) => {
-            if (w.bottom as u16) < row {
-                window_at(mem, linear, w.bottom as u16 + 1, w.link)
+            if (w.block.bottom as u16) < row {
+                let link = w.block.link;
+                window_at(mem, linear, w.block.bottom as u16 + 1, link)
             } else {
                 WindowRead::Read {
                     window: WindowInHand::Present(w),
@@ -162,10 +184,10 @@ pub fn due_window(mem: &[u16], linear: bool, row: u16, in_hand: WindowInHand) ->
 }
 
 // Are the window's rows and columns in order and in range?
-pub fn in_order(w: Window) -> bool
-    ensures { λ r. ⌜ r ≡ inOrder w ⌝ }
+pub fn in_order(b: WindowBlock) -> bool
+    ensures { λ r. ⌜ r ≡ inOrder b ⌝ }
 {
-    (w.top <= w.bottom) & (w.left <= w.right) & (w.right <= 131)
+    (b.top <= b.bottom) & (b.left <= b.right) & (b.right <= 131)
 }
 
 fn main_block_of(linear: bool, b: &[u16; 7]) -> MainBlock
@@ -180,9 +202,10 @@ fn main_block_of(linear: bool, b: &[u16; 7]) -> MainBlock
         flag: b[3] / 256 % 2 == 1,
     };
     MainBlock {
-        rows: memory::pointer(linear, b[0], b[1]),
+        rows: memory::pointer_of(linear, b[0], b[1]),
         cursor,
         fill,
+        m4: b[4],
         lines: (b[6] % 32 + 1) as u8,
     }
 }
@@ -199,29 +222,36 @@ fn format_of(b: &[u16; 3]) -> RowFormat
 }
 
 // A row block, or a window row block where no redefinition pointer is looked for.
-fn block_at(mem: &[u16], linear: bool, redefines: bool, a: u32, segments: &mut [u16]) -> BlockRead
+fn block_at(
+    mem: &[u16],
+    linear: bool,
+    redefines: bool,
+    p: Pointer,
+    segments: &mut [u16],
+) -> BlockRead
     requires { ⌜ length (now segments) ≡ 75 ⌝ }
-    ensures { λ r. ⌜ blockRead linear r (now (segments .exit)) ≡ run (now (mem .entry)) (blockAt linear redefines a) ⌝ }
+    ensures { λ r. ⌜ blockRead linear r (now (segments .exit)) ≡ run (now (mem .entry)) (blockAt linear redefines p) ⌝ }
 {
-    if a == 0 {
+    let null = Pointer { address: 0 };
+    if p.address == 0 {
         return BlockRead::Read(BlockHead {
-            link: 0,
-            redefinition: 0,
+            link: null,
+            redefinition: null,
             count: 0,
             words: 0,
         });
     }
     let mut head = [0u16; 3];
-    match memory::read_words(mem, linear, a, &mut head) {
+    match memory::read_words(mem, linear, p, &mut head) {
         WordsRead::Whole => {
             if is_pointed(redefines, head[2]) {
-                redefining_block(mem, linear, a, &head, segments)
+                redefining_block(mem, linear, p, &head, segments)
             } else {
-                let at = memory::words_ahead(linear, 3, a);
-                segments_from(mem, linear, &head, 0, at, 3, segments)
+                let at = memory::further(linear, 3, p);
+                segments_from(mem, linear, &head, null, at, 3, segments)
             }
         }
-        WordsRead::Missing(at) => BlockRead::Missing(at),
+        WordsRead::Refused(fault) => BlockRead::Refused(fault),
     }
 }
 
@@ -232,52 +262,76 @@ fn is_pointed(redefines: bool, w: u16) -> bool
     redefines & memory::bit_15(w)
 }
 
-// The rest of the block at `a` that has a redefinition pointer.
+// The rest of the block at `p` that has a redefinition pointer.
 fn redefining_block(
     mem: &[u16],
     linear: bool,
-    a: u32,
+    p: Pointer,
     head: &[u16; 3],
     segments: &mut [u16],
 ) -> BlockRead
     requires { ⌜ length (now segments) ≡ 75 ⌝ }
-    ensures { λ r. ⌜ blockRead linear r (now (segments .exit)) ≡ runFrom 3 (now (mem .entry)) (restOfBlock linear a (now (head .entry)) 2) ⌝ }
+    ensures { λ r. ⌜ blockRead linear r (now (segments .exit)) ≡ runFrom 3 (now (mem .entry)) (restOfBlock linear p (now (head .entry)) 2) ⌝ }
 {
     let mut re = [0u16; 2];
-    let at = memory::words_ahead(linear, 3, a);
+    let at = memory::further(linear, 3, p);
     match memory::read_words(mem, linear, at, &mut re) {
         WordsRead::Whole => {
-            let redefinition = memory::pointer(linear, re[0], re[1]);
-            let at = memory::words_ahead(linear, 5, a);
+            let redefinition = memory::pointer_of(linear, re[0], re[1]);
+            let at = memory::further(linear, 5, p);
             segments_from(mem, linear, head, redefinition, at, 5, segments)
         }
-        WordsRead::Missing(at) => BlockRead::Missing(at),
+        WordsRead::Refused(fault) => BlockRead::Refused(fault),
     }
 }
 
-// The segments of a block from the address `a` on, `words` words having been read.
+// The segments of a block from `p` on, `words` words having been read.
 fn segments_from(
     mem: &[u16],
     linear: bool,
     head: &[u16; 3],
-    redefinition: u32,
-    a: u32,
+    redefinition: Pointer,
+    p: Pointer,
     words: u32,
     segments: &mut [u16],
 ) -> BlockRead
     requires { ⌜ (length (now segments) ≡ 75) × (words ≤ 5) ⌝ }
-    ensures { λ r. ⌜ blockRead linear r (now (segments .exit)) ≡ runFrom words (now (mem .entry)) (segmentsFrom linear (now (head .entry)) redefinition a) ⌝ }
+    ensures { λ r. ⌜ blockRead linear r (now (segments .exit)) ≡ runFrom words (now (mem .entry)) (segmentsFrom linear (now (head .entry)) redefinition p) ⌝ }
 {
     let count = segment_count(head[2]);
     let n = 5 * count as usize;
-    match memory::read_words(mem, linear, a, &mut segments[..n]) {
+    match memory::read_words(mem, linear, p, &mut segments[..n]) {
         WordsRead::Whole => BlockRead::Read(BlockHead {
-            link: memory::pointer(linear, head[0], head[1]),
+            link: memory::pointer_of(linear, head[0], head[1]),
             redefinition,
             count,
             words: words + 5 * count as u32,
         }),
-        WordsRead::Missing(at) => BlockRead::Missing(at),
+        WordsRead::Refused(fault) => BlockRead::Refused(fault),
+    }
+}
+
+// As `segment_at`, of a slice of 75 words.
+fn segment_in(linear: bool, words: &[u16], i: usize) -> Segment
+    requires { ⌜ length (now words) ≡ 75 ⌝ }
+    ensures { λ r. ⌜ r ≡ segmentOf linear (drop (5 * i) (now (words .entry))) ⌝ }
+{
+    if i < 15 {
+        let k = 5 * i;
+        Segment {
+            codes: memory::pointer_of(linear, words[k], words[k + 1]),
+            attributes: memory::pointer_of(linear, words[k + 2], words[k + 3]),
+            length: memory::high_byte(words[k + 4]),
+            visible: memory::low_byte(words[k + 4]),
+        }
+    } else {
+        let null = Pointer { address: 0 };
+        Segment {
+            codes: null,
+            attributes: null,
+            length: 0,
+            visible: 0,
+        }
     }
 }
 
@@ -288,55 +342,53 @@ fn segment_count(w: u16) -> u8
     (w % 16) as u8
 }
 
-// The window whose block is at `a`, none where that is null; its first row is `least` or a later one.
-fn window_at(mem: &[u16], linear: bool, least: u16, a: u32) -> WindowRead
-    ensures { λ r. ⌜ windowRead r ≡ run (now (mem .entry)) (windowAt linear least a) ⌝ }
+// The window whose block a pointer leads to, none where that is null; its first row is `least` or a later one.
+fn window_at(mem: &[u16], linear: bool, least: u16, p: Pointer) -> WindowRead
+    ensures { λ r. ⌜ windowRead r ≡ run (now (mem .entry)) (windowAt linear least p) ⌝ }
 {
-    if a == 0 {
+    if p.address == 0 {
         return WindowRead::Read {
             window: WindowInHand::Absent,
             words: 0,
         };
     }
     let mut b = [0u16; 6];
-    match memory::read_words(mem, linear, a, &mut b) {
+    match memory::read_words(mem, linear, p, &mut b) {
         WordsRead::Whole => {
             let w = window_of(linear, &b);
-            if may_follow(least, w) {
+            let block = w.block;
+            if may_follow(least, block) {
                 WindowRead::Read {
                     window: WindowInHand::Present(w),
                     words: 6,
                 }
             } else {
-                WindowRead::Refused {
-                    number: 8,
-                    address: 0,
-                }
+                WindowRead::Refused(memory::fault_of(8))
             }
         }
-        WordsRead::Missing(at) => WindowRead::Refused {
-            number: 7,
-            address: at,
-        },
+        WordsRead::Refused(fault) => WindowRead::Refused(fault),
     }
 }
 
 // Is the window in order, and its first row `least` or a later one?
-fn may_follow(least: u16, w: Window) -> bool
-    ensures { λ r. ⌜ r ≡ inOrder w && leb least (w .top) ⌝ }
+fn may_follow(least: u16, b: WindowBlock) -> bool
+    ensures { λ r. ⌜ r ≡ inOrder b && leb least (b .top) ⌝ }
 {
-    in_order(w) & (least <= w.top as u16)
+    in_order(b) & (least <= b.top as u16)
 }
 
 fn window_of(linear: bool, b: &[u16; 6]) -> Window
     ensures { λ r. ⌜ r ≡ windowOf linear (now (b .entry)) ⌝ }
 {
-    Window {
+    let block = WindowBlock {
         top: memory::high_byte(b[4]),
         bottom: memory::low_byte(b[4]),
         left: memory::high_byte(b[5]),
         right: memory::low_byte(b[5]),
-        rows: memory::pointer(linear, b[2], b[3]),
-        link: memory::pointer(linear, b[0], b[1]),
+        link: memory::pointer_of(linear, b[0], b[1]),
+    };
+    Window {
+        block,
+        rows: memory::pointer_of(linear, b[2], b[3]),
     }
 }

@@ -10,7 +10,7 @@ use borrow.Author.Tests.{ltb-true, ltb-false, leb-true, eqb-true, le-leb, lt-leb
 use Rattle.memory.specs.Word.{if_then_else_}
 use Rattle.memory.proofs.ReadBounds.{if-cases, both}
 use Rattle.blocks.specs.declared.Segment.{Segment}
-use Rattle.blocks.specs.RowBlock.{null}
+use Rattle.memory.specs.Address.{null}
 use Rattle.blocks.proofs.BlockBounds.{Short}
 use Rattle.layout.specs.Layout.{width, total, boundary, covered, onSide, segmentsOn}
 use Rattle.layout.specs.declared.Side.{Side}

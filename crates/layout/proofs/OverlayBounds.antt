@@ -21,11 +21,11 @@ pub overlaid-reads : (σ : Settings) (row : ℕ) (w : WindowInHand) → Placed w
 unfolding overlaid windowRow
 overlaid-reads σ row Absent h = dones tt
 overlaid-reads σ row (Present w) h =
-    if-reads (leb (w .top) row && leb row (w .bottom))
+    if-reads (leb (w .block .top) row && leb row (w .block .bottom))
     (λ _.
     bind {n = 78} {k = 0} (omega arith) (window-row-reads (σ .linear) (w .rows)) λ b hb.
     bind {n = 0} {k = 0} (omega arith) (check-reads 9 (allFit (b .segments))) λ _ _.
-    bind {n = 0} {k = 0} (omega arith) (check-reads 11 (leb (total (σ .hidden) (b .segments)) (w .right + 1 - w .left))) λ _ h₁₁.
-    let l = leb-true (total (σ .hidden) (b .segments)) (w .right + 1 - w .left) h₁₁ in
+    bind {n = 0} {k = 0} (omega arith) (check-reads 11 (leb (total (σ .hidden) (b .segments)) (w .block .right + 1 - w .block .left))) λ _ h₁₁.
+    let l = leb-true (total (σ .hidden) (b .segments)) (w .block .right + 1 - w .block .left) h₁₁ in
     dones (hb, omega arith, omega arith))
     (λ _. dones tt)

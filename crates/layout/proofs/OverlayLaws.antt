@@ -5,7 +5,8 @@ use mathlib.Core.List.{List}
 use Prim.Native.Nat.{ℕ, _+_, _-_, _<_, _≤_}
 use lib.Dec.{leb}
 use borrow.Author.Tests.{le-leb, lt-leb, not-true, not-false}
-use Rattle.memory.specs.Reading.{Reading, done, _>>_, check, given, refused, runFrom, run}
+use Rattle.memory.specs.declared.Fault.{Fault}
+use Rattle.memory.specs.Reading.{Reading, done, fault, _>>_, check, given, refused, runFrom, run}
 use Rattle.memory.proofs.Laws.{bind-given, bind-refused, check-passed, check-failed, run-done}
 use Rattle.settings.specs.declared.Settings.{Settings}
 use Rattle.blocks.specs.declared.Segment.{Segment}
@@ -23,11 +24,11 @@ judged hidden gs k limit a = check 9 (allFit gs) >> (check k (leb (total hidden 
 
 module _ (w : ℕ) (m : List ℕ) (hidden : Bool) (gs : List Segment) (k limit : ℕ) {A : Type 0} (a : A) (x : Measure)
     (e : x ≡ measured hidden gs) where
-  pub segments-unfit : not (x .fit) ≡ true → runFrom w m (judged hidden gs k limit a) ≡ refused 9 0
+  pub segments-unfit : not (x .fit) ≡ true → runFrom w m (judged hidden gs k limit a) ≡ refused (fault 9)
   segments-unfit h = check-failed w m 9 (allFit gs) _ (not-true (allFit gs) (rw e at h))
 
   module _ (h : not (x .fit) ≡ false) where
-    pub segments-wide : limit < x .width → runFrom w m (judged hidden gs k limit a) ≡ refused k 0
+    pub segments-wide : limit < x .width → runFrom w m (judged hidden gs k limit a) ≡ refused (fault k)
     segments-wide l =
         check-passed w m 9 (allFit gs) _ (not-false (allFit gs) (rw e at h))
         ∙ check-failed w m k (leb (total hidden gs) limit) _ (lt-leb (total hidden gs) limit (rw e at l))
@@ -39,12 +40,12 @@ module _ (w : ℕ) (m : List ℕ) (hidden : Bool) (gs : List Segment) (k limit :
 
 -- the window row block, then the checks on its segments
 module _ (m : List ℕ) (σ : Settings) (w : Window) where
-  pub window-missing : {n at : ℕ} → run m (windowRowAt (σ .linear) (w .rows)) ≡ refused n at → run m (windowRow σ w) ≡ refused n at
+  pub window-refused : {x : Fault} → run m (windowRowAt (σ .linear) (w .rows)) ≡ refused x → run m (windowRow σ w) ≡ refused x
   unfolding windowRow
-  window-missing e = bind-refused 0 m (windowRowAt (σ .linear) (w .rows)) _ e
+  window-refused e = bind-refused 0 m (windowRowAt (σ .linear) (w .rows)) _ e
 
   pub window-checks : {n : ℕ} {b : RowBlock} → run m (windowRowAt (σ .linear) (w .rows)) ≡ given n b
-      → run m (windowRow σ w) ≡ runFrom n m (judged (σ .hidden) (b .segments) 11 (w .right + 1 - w .left)
-      (record { overlay = over (w .left) (w .right + 1) (b .segments); window = Present (withRows (b .link) w) }))
+      → run m (windowRow σ w) ≡ runFrom n m (judged (σ .hidden) (b .segments) 11 (w .block .right + 1 - w .block .left)
+      (record { overlay = over (w .block .left) (w .block .right + 1) (b .segments); window = Present (withRows (b .link) w) }))
   unfolding windowRow
   window-checks e = bind-given 0 m (windowRowAt (σ .linear) (w .rows)) _ e

@@ -25,4 +25,4 @@ overlayOf linear (Over first end count) ws = over first end (segmentsOf linear c
 -- the answer of `overlay_row`, with the words of the window's segments, as an outcome
 abbrev pub overlayRead : Bool → OverlayRead → List ℕ → Outcome Overlaid
 overlayRead linear (On.Read o window n) ws = given n (record { overlay = overlayOf linear o ws; window = window })
-overlayRead linear (On.Refused n a) ws = refused n a
+overlayRead linear (On.Refused x) ws = refused x

@@ -3,6 +3,7 @@ use Prim.Native.Nat.{ℕ, _+_, _-_}
 use mathlib.Core.Bool.{_&&_}
 use lib.Dec.{leb}
 use Rattle.memory.specs.Word.{if_then_else_}
+use Rattle.memory.specs.declared.Pointer.{Pointer}
 use Rattle.memory.specs.Reading.{Reading, done, _>>=_, _>>_, check}
 use Rattle.settings.specs.declared.Settings.{Settings}
 use Rattle.blocks.specs.declared.Window.{Window}
@@ -17,19 +18,21 @@ pub record Overlaid : Type 0 where
   pub window : WindowInHand
 
 -- the window with its next row block
-abbrev pub withRows : ℕ → Window → Window
-withRows a w = record { top = w .top; bottom = w .bottom; left = w .left; right = w .right; rows = a; link = w .link }
+abbrev pub withRows : Pointer → Window → Window
+withRows rows w = record { block = w .block; rows = rows }
 
 -- "window row block (7), 9, 11"
 unfoldable pub windowRow : Settings → Window → Reading Overlaid
 windowRow σ w = do
   b ← windowRowAt (σ .linear) (w .rows)
   check 9 (allFit (b .segments))
-  check 11 (leb (total (σ .hidden) (b .segments)) (w .right + 1 - w .left))
-  done (record { overlay = over (w .left) (w .right + 1) (b .segments); window = Present (withRows (b .link) w) })
+  check 11 (leb (total (σ .hidden) (b .segments)) (w .block .right + 1 - w .block .left))
+  done (record { overlay = over (w .block .left) (w .block .right + 1) (b .segments); window = Present (withRows (b .link) w) })
 
 -- "On its rows a window replaces its columns."
 unfoldable pub overlaid : Settings → ℕ → WindowInHand → Reading Overlaid
 overlaid σ row Absent = done (record { overlay = none; window = Absent })
 overlaid σ row (Present w) =
-    if leb (w .top) row && leb row (w .bottom) then windowRow σ w else done (record { overlay = none; window = Present w })
+    if leb (w .block .top) row && leb row (w .block .bottom)
+    then windowRow σ w
+    else done (record { overlay = none; window = Present w })

@@ -1,9 +1,7 @@
 // The segments of a row, from their words: widths, boundaries, and the side of a window that they are on.
 use blocks::Segment;
 ghost use mathlib.Core.Path.{_≡_};
-ghost use Prim.Native.Nat.{_*_};
-ghost use lib.ListN.{length, drop};
-ghost use Rattle.blocks.specs.RowBlock.{segmentOf, segmentsOf};
+ghost use Rattle.blocks.specs.RowBlock.{segmentsOf};
 ghost use Rattle.layout.specs.Layout.{width, fits, boundary, covered, onSide};
 ghost use Rattle.layout.specs.Answers.{measured};
 
@@ -29,18 +27,11 @@ pub struct Measure {
     pub width: usize,
 }
 
-// Segment `i` of the words of 15; one of zeros past them.
-pub fn segment_at(linear: bool, words: &[u16; 75], i: usize) -> Segment
-    ensures { λ r. ⌜ r ≡ segmentOf linear (drop (5 * i) (now (words .entry))) ⌝ }
-{
-    segment_in(linear, words, i)
-}
-
 // The width of a segment; `hidden` is Display Hidden.
 pub fn width(hidden: bool, g: Segment) -> usize
     ensures { λ r. ⌜ r ≡ width hidden g ⌝ }
 {
-    if hidden & (g.codes != 0) {
+    if hidden & (g.codes.address != 0) {
         g.length as usize
     } else {
         g.visible as usize
@@ -55,29 +46,6 @@ pub fn on_side(side: Side, s: usize, w: usize) -> bool
         Side::Whole => true,
         Side::Before(first) => s < first,
         Side::After(first, end) => !(s < first) & !is_covered(first, end, s, w),
-    }
-}
-
-// As `segment_at`, of a slice of 75 words.
-fn segment_in(linear: bool, words: &[u16], i: usize) -> Segment
-    requires { ⌜ length (now words) ≡ 75 ⌝ }
-    ensures { λ r. ⌜ r ≡ segmentOf linear (drop (5 * i) (now (words .entry))) ⌝ }
-{
-    if i < 15 {
-        let k = 5 * i;
-        Segment {
-            codes: memory::pointer(linear, words[k], words[k + 1]),
-            attributes: memory::pointer(linear, words[k + 2], words[k + 3]),
-            length: memory::high_byte(words[k + 4]),
-            visible: memory::low_byte(words[k + 4]),
-        }
-    } else {
-        Segment {
-            codes: 0,
-            attributes: 0,
-            length: 0,
-            visible: 0,
-        }
     }
 }
 
@@ -96,7 +64,7 @@ fn is_covered(first: usize, end: usize, s: usize, w: usize) -> bool
 fn fits(g: Segment) -> bool
     ensures { λ r. ⌜ r ≡ fits g ⌝ }
 {
-    (g.codes == 0) | (g.visible <= g.length)
+    (g.codes.address == 0) | (g.visible <= g.length)
 }
 
 // Check 9 and the widths' sum of `count` segments.
@@ -108,7 +76,7 @@ pub fn measure_segments(linear: bool, hidden: bool, words: &[u16; 75], count: u8
     let mut sum = 0;
     let mut i = 0;
     while i < n {
-        let g = segment_at(linear, words, i);
+        let g = blocks::segment_at(linear, words, i);
         fit = fit & fits(g);
         sum += width(hidden, g);
         i += 1;
@@ -133,7 +101,7 @@ pub fn is_boundary(
         if at == place {
             return true;
         }
-        at += width(hidden, segment_at(linear, words, i));
+        at += width(hidden, blocks::segment_at(linear, words, i));
         i += 1;
     }
     at <= place

@@ -2,7 +2,10 @@
 use crate::OverlayHead;
 use blocks::BlockRead;
 use blocks::Window;
+use blocks::WindowBlock;
 use blocks::WindowInHand;
+use memory::Fault;
+use memory::Pointer;
 use settings::Settings;
 ghost use mathlib.Core.Path.{_≡_};
 ghost use mathlib.Core.Bool.{_&&_};
@@ -22,10 +25,7 @@ pub enum OverlayRead {
         window: WindowInHand,
         words: u32,
     },
-    Refused {
-        number: u8,
-        address: u32,
-    },
+    Refused(Fault),
 }
 
 // The window in hand on its rows; no window on others.
@@ -45,7 +45,8 @@ pub fn overlay_row(
             words: 0,
         },
         WindowInHand::Present(w) => {
-            if on_rows(w, row) {
+            let block = w.block;
+            if on_rows(block, row) {
                 window_row(mem, settings, w, over)
             } else {
                 OverlayRead::Read {
@@ -82,71 +83,59 @@ pub fn edges_fit(
 }
 
 // Is the row one of the window's?
-fn on_rows(w: Window, row: u16) -> bool
-    ensures { λ r. ⌜ r ≡ leb (w .top) row && leb row (w .bottom) ⌝ }
+fn on_rows(b: WindowBlock, row: u16) -> bool
+    ensures { λ r. ⌜ r ≡ leb (b .top) row && leb row (b .bottom) ⌝ }
 {
-    (w.top as u16 <= row) & (row <= w.bottom as u16)
+    (b.top as u16 <= row) & (row <= b.bottom as u16)
 }
 
 // The window's row block; then checks 9 and 11 on its segments.
 fn window_row(mem: &[u16], settings: Settings, w: Window, over: &mut [u16; 75]) -> OverlayRead
     ensures { λ r. ⌜ overlayRead (settings .linear) r (now (over .exit)) ≡ run (now (mem .entry)) (windowRow settings w) ⌝ }
 {
-    match blocks::window_row_block(mem, settings.linear, w.rows, over) {
+    let rows = w.rows;
+    match blocks::window_row_block(mem, settings.linear, rows, over) {
         BlockRead::Read(b) => {
             let m = crate::measure_segments(settings.linear, settings.hidden, over, b.count);
             if !m.fit {
-                return OverlayRead::Refused {
-                    number: 9,
-                    address: 0,
-                };
+                return OverlayRead::Refused(memory::fault_of(9));
             }
-            if columns(w) < m.width {
-                return OverlayRead::Refused {
-                    number: 11,
-                    address: 0,
-                };
+            let block = w.block;
+            if columns(block) < m.width {
+                return OverlayRead::Refused(memory::fault_of(11));
             }
             let overlay = OverlayHead::Over {
-                first: w.left as usize,
-                end: w.right as usize + 1,
+                first: w.block.left as usize,
+                end: w.block.right as usize + 1,
                 count: b.count,
             };
-            let window = WindowInHand::Present(with_rows(b.link, w));
+            let link = b.link;
+            let window = WindowInHand::Present(with_rows(link, w));
             OverlayRead::Read {
                 overlay,
                 window,
                 words: b.words,
             }
         }
-        BlockRead::Missing(at) => OverlayRead::Refused {
-            number: 7,
-            address: at,
-        },
+        BlockRead::Refused(fault) => OverlayRead::Refused(fault),
     }
 }
 
 // How many columns the window has: none where they are out of order.
-fn columns(w: Window) -> usize
-    ensures { λ r. ⌜ r ≡ w .right + 1 - w .left ⌝ }
+fn columns(b: WindowBlock) -> usize
+    ensures { λ r. ⌜ r ≡ b .right + 1 - b .left ⌝ }
 {
-    if w.left <= w.right {
-        (w.right - w.left) as usize + 1
+    if b.left <= b.right {
+        (b.right - b.left) as usize + 1
     } else {
         0
     }
 }
 
 // The window with its next row block.
-fn with_rows(rows: u32, w: Window) -> Window
+fn with_rows(rows: Pointer, w: Window) -> Window
     ensures { λ r. ⌜ r ≡ withRows rows w ⌝ }
 {
-    Window {
-        top: w.top,
-        bottom: w.bottom,
-        left: w.left,
-        right: w.right,
-        rows,
-        link: w.link,
-    }
+    let block = w.block;
+    Window { block, rows }
 }

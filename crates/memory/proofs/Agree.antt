@@ -7,7 +7,7 @@ use Prim.Native.Nat.{ℕ, _+_, _/_}
 use lib.ListN.{length, getD}
 use lib.Dec.{ltb}
 use Rattle.memory.specs.Word.{if_then_else_}
-use Rattle.memory.specs.Reading.{Reading, done, refuse, ask, refused, runFrom, asked}
+use Rattle.memory.specs.Reading.{Reading, done, refuse, ask, absent, refused, runFrom, asked}
 
 pub data All (P : ℕ → Type 0) : List ℕ → Type 0 where
   none : All P []
@@ -29,13 +29,13 @@ module _ (m₁ m₂ : List ℕ) (len : length m₁ ≡ length m₂) where
   pub same-outcome : {A : Type 0} (p : Reading A) (n : ℕ) → All (SameWord m₁ m₂) (asked m₁ p) → runFrom n m₁ p ≡ runFrom n m₂ p
   unfolding runFrom asked
   same-outcome (done a) n h = refl
-  same-outcome (refuse i at) n h = refl
-  same-outcome (ask a f) n h =
-      rw (← len) (turn (ltb (a / 2) (length m₁)) a f (λ m p. runFrom (n + 1) m p) (refused 7 a) (λ w. same-outcome (f w) (n + 1)) h)
+  same-outcome (refuse x) n h = refl
+  same-outcome (ask q f) n h =
+      rw (← len) (turn (ltb (q .address / 2) (length m₁)) (q .address) f (λ m p. runFrom (n + 1) m p) (refused (absent q)) (λ w. same-outcome (f w) (n + 1)) h)
 
   pub same-addresses : {A : Type 0} (p : Reading A) → All (SameWord m₁ m₂) (asked m₁ p) → asked m₁ p ≡ asked m₂ p
   unfolding asked
   same-addresses (done a) h = refl
-  same-addresses (refuse i at) h = refl
-  same-addresses (ask a f) h =
-      rw (← len) (ap (_∷_ a) (turn (ltb (a / 2) (length m₁)) a f (λ m p. asked m p) [] (λ w. same-addresses (f w)) h))
+  same-addresses (refuse x) h = refl
+  same-addresses (ask q f) h =
+      rw (← len) (ap (_∷_ (q .address)) (turn (ltb (q .address / 2) (length m₁)) (q .address) f (λ m p. asked m p) [] (λ w. same-addresses (f w)) h))

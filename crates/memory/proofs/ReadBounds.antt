@@ -8,8 +8,10 @@ use native.Mathlib.Nat.{le-refl}
 use lib.ListN.{length, getD}
 use lib.Dec.{ltb, lit<}
 use Rattle.memory.specs.Word.{if_then_else_}
-use Rattle.memory.specs.Reading.{Reading, done, refuse, ask, _>>=_, check, Outcome, given, refused, runFrom}
-use Rattle.memory.specs.Address.{nextWord, words}
+use Rattle.memory.specs.Reading.{Ask, Reading, done, refuse, ask, _>>=_, check, Outcome, given, refused, runFrom}
+use Rattle.memory.specs.declared.Fault.{Fault}
+use Rattle.memory.specs.declared.Pointer.{Pointer}
+use Rattle.memory.specs.Address.{onward, words}
 
 -- every word of a list has 16 bits
 abbrev pub Words : List ℕ → Type 0
@@ -18,8 +20,8 @@ Words ws = (i : ℕ) → getD ws i 0 < 65536
 -- at most n words are asked for, and P holds of the result
 pub data Reads {A : Type 0} (P : A → Type 0) : ℕ → Reading A → Type 0 where
   dones : {n : ℕ} {a : A} → P a → Reads P n (done a)
-  refuses : {n k at : ℕ} → Reads P n (refuse k at)
-  asks : {n k a : ℕ} {f : ℕ → Reading A} → k < n → ((w : ℕ) → w < 65536 → Reads P k (f w)) → Reads P n (ask a f)
+  refuses : {n : ℕ} {x : Fault} → Reads P n (refuse x)
+  asks : {n k : ℕ} {q : Ask} {f : ℕ → Reading A} → k < n → ((w : ℕ) → w < 65536 → Reads P k (f w)) → Reads P n (ask q f)
 
 pub weaken : {A : Type 0} {P : A → Type 0} {n k : ℕ} {p : Reading A} → n ≤ k → Reads P n p → Reads P k p
 weaken l (dones h) = dones h
@@ -57,26 +59,26 @@ more-words : (w : ℕ) (ws : List ℕ) → w < 65536 → Words ws → Words (w �
 more-words w ws h k zero = h
 more-words w ws h k (suc i) = k i
 
-pub words-read : (linear : Bool) (k a : ℕ) → Reads (λ ws. Words ws × (length ws ≡ k)) k (words linear k a)
+pub words-read : (linear : Bool) (k : ℕ) (p : Pointer) → Reads (λ ws. Words ws × (length ws ≡ k)) k (words linear k p)
 unfolding words _>>=_
-words-read linear zero a = dones (no-words, refl)
-words-read linear (suc k) a =
+words-read linear zero p = dones (no-words, refl)
+words-read linear (suc k) p =
     asks (le-refl (suc k)) λ w h.
-    bind {k = 0} (omega arith) (words-read linear k (nextWord linear a)) λ ws hs. dones (more-words w ws h (hs .0), ap suc (hs .1))
+    bind {k = 0} (omega arith) (words-read linear k (onward linear p)) λ ws hs. dones (more-words w ws h (hs .0), ap suc (hs .1))
 
 -- what it comes to on a memory of such words
 pub data Within {A : Type 0} (P : A → Type 0) (t : ℕ) : Outcome A → Type 0 where
   given-within : {k : ℕ} {a : A} → k ≤ t → P a → Within P t (given k a)
-  refused-within : {k at : ℕ} → Within P t (refused k at)
+  refused-within : {x : Fault} → Within P t (refused x)
 
 pub run-reads : {A : Type 0} {P : A → Type 0} {n : ℕ} (w : ℕ) (m : List ℕ) → Words m → {p : Reading A} {t : ℕ} → w + n ≤ t
     → Reads P n p → Within P t (runFrom w m p)
 unfolding runFrom
 run-reads w m b l (dones h) = given-within {k = w} (omega arith) h
 run-reads w m b l refuses = refused-within
-run-reads {P} w m b {t} l (asks {a} h g) =
-    if-cases (Within P t) (ltb (a / 2) (length m))
-    (λ _. run-reads (w + 1) m b (omega arith) (g (getD m (a / 2) 0) (b (a / 2)))) (λ _. refused-within)
+run-reads {P} w m b {t} l (asks {q} h g) =
+    if-cases (Within P t) (ltb (q .address / 2) (length m))
+    (λ _. run-reads (w + 1) m b (omega arith) (g (getD m (q .address / 2) 0) (b (q .address / 2)))) (λ _. refused-within)
 
 pub reads-given : {A : Type 0} {P : A → Type 0} {n : ℕ} (w : ℕ) (m : List ℕ) → Words m → {p : Reading A} → Reads P n p
     → {k : ℕ} {a : A} → runFrom w m p ≡ given k a → (k ≤ w + n) × P a

@@ -9,8 +9,9 @@ use lib.ListN.{length, getD}
 use lib.Dec.{leb}
 use borrow.Author.Tests.{leb-true, leb-false, le-leb, lt-leb, lt-ltb}
 use Rattle.memory.specs.declared.Fetch.the-variants.{Word}
-use Rattle.memory.specs.Reading.{_>>=_, fetch, run}
-use Rattle.memory.specs.Address.{nextWord, ahead, isRun, words}
+use Rattle.memory.specs.Reading.{fetch}
+use Rattle.memory.specs.Address.{nextWord, ahead}
+use Rattle.memory.specs.Answers.{isRun}
 use Rattle.memory.proofs.ReadBounds.{both}
 
 -- whether k places from i on end by a place, without the sum

@@ -2,17 +2,27 @@
 use Prim.Native.Nat.{ℕ, zero, suc, _+_, _*_, _/_, _%_}
 use mathlib.Core.Bool.{Bool, true, false, _&&_}
 use mathlib.Core.List.{List, [], _∷_}
-use lib.ListN.{length}
-use lib.Dec.{leb}
-use Rattle.memory.specs.declared.WordsRead.{WordsRead}
-use Rattle.memory.specs.declared.WordsRead.the-variants.{Whole, Missing}
-use Rattle.memory.specs.Reading.{Reading, done, word, _>>=_, Outcome, given, refused}
+use lib.Dec.{ltb, eqb}
+use Rattle.memory.specs.declared.Pointer.{Pointer}
+use Rattle.memory.specs.Reading.{Reading, done, word, _>>=_}
+
+-- a pointer in use, to an address
+abbrev pub to : ℕ → Pointer
+to a = record { address = a }
 
 -- "A pointer is two words. Linear: low byte of the first, then the second. Segmented: bits 14 to 8 of the first are the
--- page, the second the place in the page .. Bit 0 is cleared; a pointer that is then 0 points at nothing."
-unfoldable pub pointer : Bool → ℕ → ℕ → ℕ
-pointer true first second = (first % 256 * 65536 + second) / 2 * 2
-pointer false first second = (first / 256 % 128 * 65536 + second) / 2 * 2
+-- page, the second the place in the page .. Bit 0 is cleared"
+unfoldable pub pointer : Bool → ℕ → ℕ → Pointer
+pointer true first second = to ((first % 256 * 65536 + second) / 2 * 2)
+pointer false first second = to ((first / 256 % 128 * 65536 + second) / 2 * 2)
+
+-- "a pointer that is then 0 points at nothing"
+abbrev pub null : Pointer → Bool
+null p = eqb (p .address) 0
+
+-- Refusal 3: "an address odd or above 24 bits"
+abbrev pub isAddress : ℕ → Bool
+isAddress a = eqb (a % 2) 0 && ltb a 16777216
 
 -- "The next word is 2 further: linear carries into the high byte, and from FFFFFE goes to 0 (ours); segmented wraps in its page."
 unfoldable pub nextWord : Bool → ℕ → ℕ
@@ -24,20 +34,17 @@ unfoldable pub ahead : Bool → ℕ → ℕ → ℕ
 ahead linear zero a = a
 ahead linear (suc k) a = ahead linear k (nextWord linear a)
 
--- do the k words from a on stand one after the other in a memory of len words, with no wrap between them?
-unfoldable pub isRun : Bool → ℕ → ℕ → ℕ → Bool
-isRun true len a k = leb (a / 2 + k) len && leb (a / 2 + k) 8388608
-isRun false len a k = leb (a / 2 + k) len && leb (a / 2 % 32768 + k) 32768
+-- the pointer in use, one word and k words further
+abbrev pub onward : Bool → Pointer → Pointer
+onward linear p = to (nextWord linear (p .address))
+
+abbrev pub further : Bool → ℕ → Pointer → Pointer
+further linear k p = to (ahead linear k (p .address))
 
 -- k words, one after the other
-unfoldable pub words : Bool → ℕ → ℕ → Reading (List ℕ)
-words linear zero a = done []
-words linear (suc k) a = do
-  w ← word a
-  ws ← words linear k (nextWord linear a)
+unfoldable pub words : Bool → ℕ → Pointer → Reading (List ℕ)
+words linear zero p = done []
+words linear (suc k) p = do
+  w ← word p
+  ws ← words linear k (onward linear p)
   done (w ∷ ws)
-
--- the answer of `read_words`, with the slice it leaves, as an outcome
-abbrev pub wordsRead : WordsRead → List ℕ → Outcome (List ℕ)
-wordsRead Whole ws = given (length ws) ws
-wordsRead (Missing a) ws = refused 7 a

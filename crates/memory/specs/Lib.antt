@@ -1,3 +1,4 @@
 pub mod Word
 pub mod Reading
 pub mod Address
+pub mod Answers

@@ -7,23 +7,37 @@ use lib.ListN.{length, getD}
 use lib.Dec.{ltb}
 use Rattle.memory.specs.declared.Fetch.{Fetch}
 use Rattle.memory.specs.declared.Fetch.the-variants.{Word, Absent}
+use Rattle.memory.specs.declared.Fault.{Fault}
+use Rattle.memory.specs.declared.Pointer.{Pointer}
+use Rattle.memory.specs.declared.Refusal.{Refusal}
 use Rattle.memory.specs.Word.{if_then_else_}
+
+-- the question that a reading asks: the word at an address
+pub record Ask : Type 0 where
+  pub address : ℕ
+
+-- a refusal on its way up: that of a check has address 0
+abbrev pub fault : ℕ → Fault
+fault n = record { number = n; address = 0 }
 
 pub data Reading (A : Type 0) : Type 0 where
   done : A → Reading A
-  refuse : (number address : ℕ) → Reading A
-  ask : (address : ℕ) → (ℕ → Reading A) → Reading A
+  refuse : Fault → Reading A
+  ask : Ask → (ℕ → Reading A) → Reading A
 
--- the word at an address
-abbrev pub word : ℕ → Reading ℕ
-word a = ask a done
+-- the word that a pointer in use comes to
+abbrev pub asking : Pointer → Ask
+asking p = record { address = p .address }
+
+abbrev pub word : Pointer → Reading ℕ
+word p = ask (asking p) done
 
 infixl 20 _>>=_
 infixl 20 _>>_
 unfoldable pub _>>=_ : {A B : Type 0} → Reading A → (A → Reading B) → Reading B
 done a >>= k = k a
-refuse n at >>= k = refuse n at
-ask a f >>= k = ask a (λ w. f w >>= k)
+refuse x >>= k = refuse x
+ask q f >>= k = ask q (λ w. f w >>= k)
 
 abbrev pub _>>_ : {A B : Type 0} → Reading A → Reading B → Reading B
 p >> q = p >>= λ _. q
@@ -31,7 +45,7 @@ p >> q = p >>= λ _. q
 -- refusal n, at address 0, unless the test holds
 abbrev pub check : ℕ → Bool → Reading (Unit {0})
 check n true = done tt
-check n false = refuse n 0
+check n false = refuse (fault n)
 
 -- a reading for each of a list, in order, that carries a value along
 unfoldable pub each : {A B : Type 0} → (A → B → Reading B) → List A → B → Reading B
@@ -45,13 +59,21 @@ fetch m a = if ltb (a / 2) (length m) then Word (getD m (a / 2) 0) else Absent
 -- what a reading comes to: "The word count is every word read"; a refusal has a number and an address
 pub data Outcome (A : Type 0) : Type 0 where
   given : (words : ℕ) → A → Outcome A
-  refused : (number address : ℕ) → Outcome A
+  refused : Fault → Outcome A
 
--- on the memory m, n words having been read before. Refusal 7, "word outside memory", has the address of "the missing word"
+-- Refusal 7, "word outside memory", has the address of "the missing word"
+abbrev pub absent : Ask → Fault
+absent q = record { number = 7; address = q .address }
+
+-- .. of the word that a pointer in use comes to
+abbrev pub missing : Pointer → Fault
+missing p = absent (asking p)
+
+-- on the memory m, n words having been read before
 unfoldable pub runFrom : {A : Type 0} → ℕ → List ℕ → Reading A → Outcome A
 runFrom n m (done a) = given n a
-runFrom n m (refuse k at) = refused k at
-runFrom n m (ask a f) = if ltb (a / 2) (length m) then runFrom (n + 1) m (f (getD m (a / 2) 0)) else refused 7 a
+runFrom n m (refuse x) = refused x
+runFrom n m (ask q f) = if ltb (q .address / 2) (length m) then runFrom (n + 1) m (f (getD m (q .address / 2) 0)) else refused (absent q)
 
 abbrev pub run : {A : Type 0} → List ℕ → Reading A → Outcome A
 run m p = runFrom 0 m p
@@ -59,5 +81,9 @@ run m p = runFrom 0 m p
 -- the addresses asked for, in order; the last one of a refusal 7 is the missing word's
 unfoldable pub asked : {A : Type 0} → List ℕ → Reading A → List ℕ
 asked m (done a) = []
-asked m (refuse k at) = []
-asked m (ask a f) = a ∷ (if ltb (a / 2) (length m) then asked m (f (getD m (a / 2) 0)) else [])
+asked m (refuse x) = []
+asked m (ask q f) = q .address ∷ (if ltb (q .address / 2) (length m) then asked m (f (getD m (q .address / 2) 0)) else [])
+
+-- what a call tells: a refusal's number and address with the row, which "is 0 at the start, else the state's"
+abbrev pub refusal : ℕ → Fault → Refusal
+refusal row x = record { number = x .number; row = row; address = x .address }

@@ -1,6 +1,8 @@
 -- Parts of a 16-bit word, and the choice by a test that the rules use.
 use Prim.Native.Nat.{ℕ, _/_, _%_, _^_}
 use mathlib.Core.Bool.{Bool, true, false}
+use mathlib.Core.List.{List}
+use lib.ListN.{getD}
 use lib.Dec.{eqb}
 
 infix 0 if_then_else_
@@ -17,3 +19,7 @@ high w = w / 256
 
 abbrev pub low : ℕ → ℕ
 low w = w % 256
+
+-- word k of a list, counted from 0
+abbrev pub at : List ℕ → ℕ → ℕ
+at ws k = getD ws k 0

@@ -4,8 +4,20 @@ ghost use Prim.Native.Nat.{_+_};
 ghost use lib.ListN.{length};
 ghost use lib.Dec.{leb};
 ghost use Rattle.memory.specs.Word.{bit, high, low};
-ghost use Rattle.memory.specs.Reading.{fetch, run};
-ghost use Rattle.memory.specs.Address.{pointer, nextWord, ahead, isRun, words, wordsRead};
+ghost use Rattle.memory.specs.Reading.{fetch, fault, missing, refusal, run};
+ghost use Rattle.memory.specs.Address.{pointer, null, isAddress, nextWord, ahead, onward, further, words};
+ghost use Rattle.memory.specs.Answers.{isRun, wordsRead};
+
+// A pointer in use: the address of the word that is due; a null pointer has 0.
+pub struct Pointer {
+    pub address: u32,
+}
+
+// A refusal on its way up, before its row is told: document 01's number, and the address.
+pub struct Fault {
+    pub number: u8,
+    pub address: u32,
+}
 
 // A refusal of document 01: its number, the row and the address that it tells.
 pub struct Refusal {
@@ -20,10 +32,38 @@ pub enum Fetch {
     Absent,
 }
 
-// That a slice is filled, or the address of the first word that lies outside memory.
+// That a slice is filled, or refusal 7 of the first word that lies outside memory.
 pub enum WordsRead {
     Whole,
-    Missing(u32),
+    Refused(Fault),
+}
+
+// The refusal of a check: its address is 0.
+pub fn fault_of(number: u8) -> Fault
+    ensures { λ r. ⌜ r ≡ fault number ⌝ }
+{
+    Fault { number, address: 0 }
+}
+
+// Refusal 7 of the word that is due.
+pub fn missing(p: Pointer) -> Fault
+    ensures { λ r. ⌜ r ≡ missing p ⌝ }
+{
+    Fault {
+        number: 7,
+        address: p.address,
+    }
+}
+
+// The refusal that a call tells.
+pub fn refusal_of(row: u16, fault: Fault) -> Refusal
+    ensures { λ r. ⌜ r ≡ refusal row fault ⌝ }
+{
+    Refusal {
+        number: fault.number,
+        row,
+        address: fault.address,
+    }
 }
 
 // The high byte of a word.
@@ -54,15 +94,33 @@ pub fn bit_13(w: u16) -> bool
     w / 8192 % 2 == 1
 }
 
-// The address that a pointer's two words give; 0 points at nothing.
-pub fn pointer(linear: bool, first: u16, second: u16) -> u32
+// The pointer that two words give.
+pub fn pointer_of(linear: bool, first: u16, second: u16) -> Pointer
     ensures { λ r. ⌜ r ≡ pointer linear first second ⌝ }
 {
     if linear {
-        (first as u32 % 256 * 65536 + second as u32) / 2 * 2
+        Pointer {
+            address: (first as u32 % 256 * 65536 + second as u32) / 2 * 2,
+        }
     } else {
-        (first as u32 / 256 % 128 * 65536 + second as u32) / 2 * 2
+        Pointer {
+            address: (first as u32 / 256 % 128 * 65536 + second as u32) / 2 * 2,
+        }
     }
+}
+
+// Does the pointer point at nothing?
+pub fn is_null(p: Pointer) -> bool
+    ensures { λ r. ⌜ r ≡ null p ⌝ }
+{
+    p.address == 0
+}
+
+// Is the number an even address of 24 bits?
+pub fn is_address(a: u32) -> bool
+    ensures { λ r. ⌜ r ≡ isAddress a ⌝ }
+{
+    (a % 2 == 0) & (a < 16777216)
 }
 
 // The address of the word after the one at `a`.
@@ -92,6 +150,24 @@ pub fn words_ahead(linear: bool, count: u32, a: u32) -> u32
     }
 }
 
+// The pointer one word further.
+pub fn onward(linear: bool, p: Pointer) -> Pointer
+    ensures { λ r. ⌜ r ≡ onward linear p ⌝ }
+{
+    Pointer {
+        address: next_word(linear, p.address),
+    }
+}
+
+// The pointer `count` words further.
+pub fn further(linear: bool, count: u32, p: Pointer) -> Pointer
+    ensures { λ r. ⌜ r ≡ further linear count p ⌝ }
+{
+    Pointer {
+        address: words_ahead(linear, count, p.address),
+    }
+}
+
 // Do `count` words from the address `a` on stand one after the other in memory, with no wrap between them?
 pub fn is_run(mem: &[u16], linear: bool, a: u32, count: usize) -> bool
     ensures { λ r. ⌜ r ≡ isRun linear (length (now (mem .entry))) a count ⌝ }
@@ -116,18 +192,18 @@ pub fn word_at(mem: &[u16], a: u32) -> Fetch
     }
 }
 
-// As many words as `into` holds, from the address `a` on.
-pub fn read_words(mem: &[u16], linear: bool, a: u32, into: &mut [u16]) -> WordsRead
-    ensures { λ r. ⌜ wordsRead r (now (into .exit)) ≡ run (now (mem .entry)) (words linear (length (now (into .entry))) a) ⌝ }
+// As many words as `into` holds, from a pointer on.
+pub fn read_words(mem: &[u16], linear: bool, p: Pointer, into: &mut [u16]) -> WordsRead
+    ensures { λ r. ⌜ wordsRead r (now (into .exit)) ≡ run (now (mem .entry)) (words linear (length (now (into .entry))) p) ⌝ }
 {
-    let mut at = a;
+    let mut at = p;
     let mut i = 0;
     while i < into.len() {
-        let Fetch::Word(w) = word_at(mem, at) else {
-            return WordsRead::Missing(at);
+        let Fetch::Word(w) = word_at(mem, at.address) else {
+            return WordsRead::Refused(missing(at));
         };
         into[i] = w;
-        at = next_word(linear, at);
+        at = onward(linear, at);
         i += 1;
     }
     WordsRead::Whole

@@ -1,20 +1,22 @@
 -- How many words a plan reads at most, and what holds of it.
 use mathlib.Core.Path.{_≡_}
 use mathlib.Core.Bool.{Bool, true}
-use Prim.Native.Nat.{_≤_, _<_}
+use Prim.Native.Nat.{ℕ, _≤_, _<_}
 use native.Mathlib.Omega.{arith}
 use lib.Dec.{ltb, leb}
 use borrow.Author.Tests.{leb-true, ltb-true}
 use Rattle.memory.proofs.ReadBounds.{Reads, dones, bind, check-reads}
+use Rattle.memory.specs.declared.Pointer.{Pointer}
 use Rattle.settings.specs.declared.Settings.{Settings}
-use Rattle.settings.specs.Good.{good}
+use Rattle.settings.specs.Good.{good, checkSettings}
+use Rattle.blocks.specs.declared.RowFormat.{RowFormat}
 use Rattle.blocks.proofs.BlockBounds.{Few, row-block-reads, redefined-reads, due-reads}
 use Rattle.state.specs.declared.Fields.{Fields}
 use Rattle.state.specs.State.{inRange}
 use Rattle.state.proofs.StateLaws.{placed, has-line}
 use Rattle.layout.specs.Layout.{total, allFit, edgesFit}
 use Rattle.layout.proofs.OverlayBounds.{Inside, overlaid-reads}
-use Rattle.plan.specs.Plan.{Plan, nextFields, BackgroundRow, backgroundRow, plan}
+use Rattle.plan.specs.Plan.{Plan, nextFields, BackgroundRow, backgroundBlock, backgroundRow, plan}
 
 -- what the cells need of a plan, and that the next row has fewer lines left
 pub record Sound (hidden : Bool) (f : Fields) (p : Plan) : Type 0 where
@@ -30,17 +32,23 @@ pub record Narrow (hidden : Bool) (f : Fields) (g : BackgroundRow) : Type 0 wher
   pub narrow : total hidden (g .block .segments) ≤ 132
   pub tall : 1 ≤ f .format .lines → 1 ≤ g .format .lines
 
+pub block-reads : (linear : Bool) (p : Pointer) (t : RowFormat)
+    → Reads (λ g. Few 15 (g .block .segments) × (1 ≤ t .lines → 1 ≤ g .format .lines)) 83 (backgroundBlock linear p t)
+unfolding backgroundBlock
+block-reads linear p t =
+    bind {n = 80} {k = 3} (omega arith) (row-block-reads linear p) λ b few.
+    bind {n = 3} {k = 0} (omega arith) (redefined-reads linear (b .redefinition) t) λ format tall. dones (few, tall)
+
 pub background-reads : (σ : Settings) (f : Fields) → Reads (Narrow (σ .hidden) f) 83 (backgroundRow σ f)
 unfolding backgroundRow
 background-reads σ f =
-    bind {n = 80} {k = 3} (omega arith) (row-block-reads (σ .linear) (f .next)) λ b hb.
-    bind {n = 3} {k = 0} (omega arith) (redefined-reads (σ .linear) (b .redefinition) (f .format)) λ format tall.
-    bind {n = 0} {k = 0} (omega arith) (check-reads 9 (allFit (b .segments))) λ _ _.
-    bind {n = 0} {k = 0} (omega arith) (check-reads 10 (leb (total (σ .hidden) (b .segments)) 132)) λ _ h.
-    dones (record { few = hb; narrow = leb-true (total (σ .hidden) (b .segments)) 132 h; tall = tall })
+    bind {n = 83} {k = 0} (omega arith) (block-reads (σ .linear) (f .next) (f .format)) λ g h.
+    bind {n = 0} {k = 0} (omega arith) (check-reads 9 (allFit (g .block .segments))) λ _ _.
+    bind {n = 0} {k = 0} (omega arith) (check-reads 10 (leb (total (σ .hidden) (g .block .segments)) 132)) λ _ h₁₀.
+    dones (record { few = h .0; narrow = leb-true (total (σ .hidden) (g .block .segments)) 132 h₁₀; tall = h .1 })
 
 pub plan-reads : (σ : Settings) (f : Fields) → Reads (Sound (σ .hidden) f) 167 (plan σ f)
-unfolding plan nextFields
+unfolding plan checkSettings nextFields
 plan-reads σ f =
     bind {n = 0} {k = 167} (omega arith) (check-reads 2 (good σ)) λ _ _.
     bind {n = 0} {k = 167} (omega arith) (check-reads 3 (inRange f)) λ _ h₃.

@@ -1,16 +1,18 @@
 -- What the plan of a row comes to: a law for each way through its definitions, from what the readings in it come to.
 use mathlib.Core.Path.{_≡_, _∙_}
-use mathlib.Core.Bool.{true, false}
+use mathlib.Core.Bool.{Bool, true, false}
 use mathlib.Core.List.{List}
 use Prim.Native.Nat.{ℕ, _+_, _<_, _≤_}
 use native.Mathlib.Omega.{arith}
 use lib.Dec.{ltb}
 use borrow.Author.Tests.{lt-ltb, le-ltb}
-use Rattle.memory.specs.Reading.{done, _>>_, check, given, refused, runFrom, run}
+use Rattle.memory.specs.declared.Fault.{Fault}
+use Rattle.memory.specs.declared.Pointer.{Pointer}
+use Rattle.memory.specs.Reading.{done, fault, _>>_, check, given, refused, runFrom, run}
 use Rattle.memory.proofs.Laws.{bind-given, bind-refused, step-given, step-refused, check-passed, check-failed, run-done}
 use Rattle.memory.proofs.ReadBounds.{Words, reads-given}
 use Rattle.settings.specs.declared.Settings.{Settings}
-use Rattle.settings.specs.Good.{good}
+use Rattle.settings.specs.Good.{checkSettings}
 use Rattle.blocks.specs.declared.RowFormat.{RowFormat}
 use Rattle.blocks.specs.declared.WindowInHand.{WindowInHand}
 use Rattle.blocks.specs.RowBlock.{RowBlock, rowBlockAt, redefined}
@@ -23,50 +25,52 @@ use Rattle.layout.specs.Layout.{edgesFit}
 use Rattle.layout.specs.Overlay.{Overlaid, overlaid}
 use Rattle.layout.proofs.OverlayBounds.{overlaid-reads}
 use Rattle.layout.proofs.OverlayLaws.{judged}
-use Rattle.plan.specs.Plan.{BackgroundRow, backgroundRow, planned, fromBlocks, plan}
+use Rattle.plan.specs.Plan.{BackgroundRow, backgroundBlock, backgroundRow, planned, fromBlocks, fromState, plan}
 use Rattle.plan.proofs.PlanBounds.{background-reads}
 
--- the row block and its redefinition, then the checks on its segments
+-- the row block and its redefinition
+module _ (m : List ℕ) (l : Bool) (p : Pointer) (format : RowFormat) where
+  pub block-refused : {x : Fault} → run m (rowBlockAt l p) ≡ refused x → run m (backgroundBlock l p format) ≡ refused x
+  unfolding backgroundBlock
+  block-refused e = bind-refused 0 m (rowBlockAt l p) _ e
+
+  module _ {w : ℕ} {b : RowBlock} (e : run m (rowBlockAt l p) ≡ given w b) where
+    pub format-refused : {x : Fault} → run m (redefined l (b .redefinition) format) ≡ refused x → run m (backgroundBlock l p format) ≡ refused x
+    unfolding backgroundBlock
+    format-refused d = bind-given 0 m (rowBlockAt l p) _ e ∙ step-refused w m (redefined l (b .redefinition) format) _ d
+
+    module _ {n : ℕ} {t : RowFormat} (d : run m (redefined l (b .redefinition) format) ≡ given n t) where
+      pub block-read : run m (backgroundBlock l p format) ≡ given (w + n) (record { block = b; format = t })
+      unfolding backgroundBlock
+      block-read =
+          bind-given 0 m (rowBlockAt l p) _ e ∙ step-given w m (redefined l (b .redefinition) format) _ d ∙ run-done _ _ _
+
+      pub block-words : Words m → w + n ≤ 83
+      block-words h = omega (arith, reads-given 0 m h (row-block-reads l p) e .0, reads-given 0 m h (redefined-reads l (b .redefinition) format) d .0)
+
+-- then the checks on its segments
 module _ (m : List ℕ) (σ : Settings) (f : Fields) where
-  pub background-missing : {n at : ℕ}
-      → run m (rowBlockAt (σ .linear) (f .next)) ≡ refused n at → run m (backgroundRow σ f) ≡ refused n at
+  pub row-refused : {x : Fault} → run m (backgroundBlock (σ .linear) (f .next) (f .format)) ≡ refused x → run m (backgroundRow σ f) ≡ refused x
   unfolding backgroundRow
-  background-missing e = bind-refused 0 m (rowBlockAt (σ .linear) (f .next)) _ e
+  row-refused e = bind-refused 0 m (backgroundBlock (σ .linear) (f .next) (f .format)) _ e
 
-  module _ {w : ℕ} {b : RowBlock} (e : run m (rowBlockAt (σ .linear) (f .next)) ≡ given w b) where
-    pub format-missing : {n at : ℕ}
-        → run m (redefined (σ .linear) (b .redefinition) (f .format)) ≡ refused n at → run m (backgroundRow σ f) ≡ refused n at
-    unfolding backgroundRow
-    format-missing d =
-        bind-given 0 m (rowBlockAt (σ .linear) (f .next)) _ e ∙ step-refused w m (redefined (σ .linear) (b .redefinition) (f .format)) _ d
-
-    module _ {n : ℕ} {t : RowFormat} (d : run m (redefined (σ .linear) (b .redefinition) (f .format)) ≡ given n t) where
-      pub background-checks : run m (backgroundRow σ f)
-          ≡ runFrom (w + n) m (judged (σ .hidden) (b .segments) 10 132 (record { block = b; format = t }))
-      unfolding backgroundRow
-      background-checks =
-          bind-given 0 m (rowBlockAt (σ .linear) (f .next)) _ e ∙ step-given w m (redefined (σ .linear) (b .redefinition) (f .format)) _ d
-
-      pub background-words : Words m → w + n ≤ 83
-      background-words h =
-          omega (
-            arith,
-            reads-given 0 m h (row-block-reads (σ .linear) (f .next)) e .0,
-            reads-given 0 m h (redefined-reads (σ .linear) (b .redefinition) (f .format)) d .0,
-          )
+  pub row-checks : {n : ℕ} {g : BackgroundRow} → run m (backgroundBlock (σ .linear) (f .next) (f .format)) ≡ given n g
+      → run m (backgroundRow σ f) ≡ runFrom n m (judged (σ .hidden) (g .block .segments) 10 132 g)
+  unfolding backgroundRow
+  row-checks e = bind-given 0 m (backgroundBlock (σ .linear) (f .next) (f .format)) _ e
 
 -- the blocks of a row one after the other, then check 12
 module _ (m : List ℕ) (σ : Settings) (f : Fields) where
-  pub window-refused : {n at : ℕ}
-      → run m (dueWindow (σ .linear) (f .row) (f .window)) ≡ refused n at → run m (fromBlocks σ f) ≡ refused n at
+  pub window-refused : {x : Fault}
+      → run m (dueWindow (σ .linear) (f .row) (f .window)) ≡ refused x → run m (fromBlocks σ f) ≡ refused x
   window-refused e = bind-refused 0 m (dueWindow (σ .linear) (f .row) (f .window)) _ e
 
   module _ {i : ℕ} {w : WindowInHand} (e : run m (dueWindow (σ .linear) (f .row) (f .window)) ≡ given i w) where
-    pub background-refused : {n at : ℕ} → run m (backgroundRow σ f) ≡ refused n at → run m (fromBlocks σ f) ≡ refused n at
+    pub background-refused : {x : Fault} → run m (backgroundRow σ f) ≡ refused x → run m (fromBlocks σ f) ≡ refused x
     background-refused d = bind-given 0 m (dueWindow (σ .linear) (f .row) (f .window)) _ e ∙ step-refused i m (backgroundRow σ f) _ d
 
     module _ {j : ℕ} {g : BackgroundRow} (d : run m (backgroundRow σ f) ≡ given j g) where
-      pub overlay-refused : {n at : ℕ} → run m (overlaid σ (f .row) w) ≡ refused n at → run m (fromBlocks σ f) ≡ refused n at
+      pub overlay-refused : {x : Fault} → run m (overlaid σ (f .row) w) ≡ refused x → run m (fromBlocks σ f) ≡ refused x
       overlay-refused u =
           bind-given 0 m (dueWindow (σ .linear) (f .row) (f .window)) _ e ∙ step-given i m (backgroundRow σ f) _ d
           ∙ step-refused (i + j) m (overlaid σ (f .row) w) _ u
@@ -79,7 +83,7 @@ module _ (m : List ℕ) (σ : Settings) (f : Fields) where
             ∙ step-given (i + j) m (overlaid σ (f .row) w) _ u
 
         pub edges-off : edgesFit (σ .hidden) (o .overlay) (g .block .segments) ≡ false
-            → run m (fromBlocks σ f) ≡ refused 12 0
+            → run m (fromBlocks σ f) ≡ refused (fault 12)
         edges-off h = edges-checked ∙ check-failed _ m 12 _ _ h
 
         pub edges-on : edgesFit (σ .hidden) (o .overlay) (g .block .segments) ≡ true
@@ -96,33 +100,30 @@ module _ (m : List ℕ) (σ : Settings) (f : Fields) where
               reads-given 0 m b (overlaid-reads σ (f .row) w (due .1)) u .0,
             )
 
--- checks 2 to 5
+-- check 2, and checks 3 to 5
 module _ (m : List ℕ) (σ : Settings) (f : Fields) where
-  pub settings-bad : good σ ≡ false → run m (plan σ f) ≡ refused 2 0
+  pub settings-refused : {x : Fault} → run m (checkSettings σ) ≡ refused x → run m (plan σ f) ≡ refused x
   unfolding plan
-  settings-bad e = check-failed 0 m 2 (good σ) _ e
+  settings-refused e = bind-refused 0 m (checkSettings σ) _ e
 
-  module _ (g : good σ ≡ true) where
-    pub state-out : inRange f ≡ false → run m (plan σ f) ≡ refused 3 0
-    unfolding plan
-    state-out e = check-passed 0 m 2 (good σ) _ g ∙ check-failed 0 m 3 (inRange f) _ e
+  pub settings-passed : run m (checkSettings σ) ≡ given 0 tt → run m (plan σ f) ≡ run m (fromState σ f)
+  unfolding plan
+  settings-passed e = bind-given 0 m (checkSettings σ) _ e
 
-    module _ (s : inRange f ≡ true) where
-      pub no-lines : f .left ≡ 0 → run m (plan σ f) ≡ refused 4 0
-      unfolding plan
-      no-lines e =
-          check-passed 0 m 2 (good σ) _ g ∙ check-passed 0 m 3 (inRange f) _ s
-          ∙ check-failed 0 m 4 (ltb 0 (f .left)) _ (le-ltb 0 (f .left) (omega arith))
+  pub state-out : inRange f ≡ false → run m (fromState σ f) ≡ refused (fault 3)
+  state-out e = check-failed 0 m 3 (inRange f) _ e
 
-      module _ (l : 0 < f .left) where
-        state-checked : run m (plan σ f) ≡ run m (check 5 (ltb (f .row) 4095) >> fromBlocks σ f)
-        unfolding plan
-        state-checked =
-            check-passed 0 m 2 (good σ) _ g ∙ check-passed 0 m 3 (inRange f) _ s
-            ∙ check-passed 0 m 4 (ltb 0 (f .left)) _ (lt-ltb 0 (f .left) l)
+  module _ (s : inRange f ≡ true) where
+    pub no-lines : f .left ≡ 0 → run m (fromState σ f) ≡ refused (fault 4)
+    no-lines e =
+        check-passed 0 m 3 (inRange f) _ s ∙ check-failed 0 m 4 (ltb 0 (f .left)) _ (le-ltb 0 (f .left) (omega arith))
 
-        pub row-high : 4095 ≤ f .row → run m (plan σ f) ≡ refused 5 0
-        row-high h = state-checked ∙ check-failed 0 m 5 (ltb (f .row) 4095) _ (le-ltb (f .row) 4095 h)
+    module _ (l : 0 < f .left) where
+      state-checked : run m (fromState σ f) ≡ run m (check 5 (ltb (f .row) 4095) >> fromBlocks σ f)
+      state-checked = check-passed 0 m 3 (inRange f) _ s ∙ check-passed 0 m 4 (ltb 0 (f .left)) _ (lt-ltb 0 (f .left) l)
 
-        pub all-checked : f .row < 4095 → run m (plan σ f) ≡ run m (fromBlocks σ f)
-        all-checked h = state-checked ∙ check-passed 0 m 5 (ltb (f .row) 4095) _ (lt-ltb (f .row) 4095 h)
+      pub row-high : 4095 ≤ f .row → run m (fromState σ f) ≡ refused (fault 5)
+      row-high h = state-checked ∙ check-failed 0 m 5 (ltb (f .row) 4095) _ (le-ltb (f .row) 4095 h)
+
+      pub all-checked : f .row < 4095 → run m (fromState σ f) ≡ run m (fromBlocks σ f)
+      all-checked h = state-checked ∙ check-passed 0 m 5 (ltb (f .row) 4095) _ (lt-ltb (f .row) 4095 h)

@@ -3,7 +3,8 @@ use Prim.Native.Nat.{ℕ}
 use mathlib.Core.Bool.{Bool}
 use mathlib.Core.List.{List}
 use Rattle.memory.specs.Reading.{Outcome, given, refused}
-use Rattle.blocks.specs.RowBlock.{segmentsOf, blockOf}
+use Rattle.blocks.specs.RowBlock.{segmentsOf}
+use Rattle.blocks.specs.Answers.{blockOf}
 use Rattle.layout.specs.Answers.{overlayOf}
 use Rattle.plan.specs.declared.BackgroundRead.{BackgroundRead}
 use Rattle.plan.specs.declared.BackgroundRead.the-variants as Back
@@ -12,10 +13,10 @@ use Rattle.plan.specs.declared.PlanAnswer.{PlanAnswer}
 use Rattle.plan.specs.declared.PlanAnswer.the-variants.{Planned, Refused}
 use Rattle.plan.specs.Plan.{BackgroundRow, Plan}
 
--- the answer of `background_row`, with the words of the segments, as an outcome
+-- the answer of `background_block` and of `background_row`, with the words of the segments, as an outcome
 abbrev pub backgroundRead : Bool → BackgroundRead → List ℕ → Outcome BackgroundRow
 backgroundRead linear (Back.Read b format) ws = given (b .words) (record { block = blockOf linear b ws; format = format })
-backgroundRead linear (Back.Refused n a) ws = refused n a
+backgroundRead linear (Back.Refused x) ws = refused x
 
 -- a plan, from what `plan_row` gives and the words of the background's and the window's segments
 abbrev pub planOf : Bool → PlanHead → List ℕ → List ℕ → Plan
@@ -30,4 +31,4 @@ planOf linear p bs os = record {
 -- the answer of `plan_row` as an outcome
 abbrev pub planAnswer : Bool → PlanAnswer → List ℕ → List ℕ → Outcome Plan
 planAnswer linear (Planned p) bs os = given (p .words) (planOf linear p bs os)
-planAnswer linear (Refused n a) bs os = refused n a
+planAnswer linear (Refused x) bs os = refused x

@@ -1,11 +1,13 @@
 -- What a row is drawn from, before any cell: checks 2 to 5, a due window, the row block and its redefinition, 9, 10, the window
 -- row block, 9, 11, and 12. It asks for no latch.
 use Prim.Native.Nat.{ℕ, _+_, _-_, min}
+use mathlib.Core.Bool.{Bool}
 use mathlib.Core.List.{List}
 use lib.Dec.{ltb, leb}
+use Rattle.memory.specs.declared.Pointer.{Pointer}
 use Rattle.memory.specs.Reading.{Reading, done, _>>=_, _>>_, check}
 use Rattle.settings.specs.declared.Settings.{Settings}
-use Rattle.settings.specs.Good.{good}
+use Rattle.settings.specs.Good.{checkSettings}
 use Rattle.blocks.specs.declared.Segment.{Segment}
 use Rattle.blocks.specs.declared.RowFormat.{RowFormat}
 use Rattle.blocks.specs.declared.WindowInHand.{WindowInHand}
@@ -28,7 +30,7 @@ abbrev pub linesTaken : RowFormat → ℕ → ℕ
 linesTaken format left = min (format .lines) left
 
 -- the fields of the next state, whose row block is at `link`
-unfoldable pub nextFields : Fields → RowFormat → ℕ → WindowInHand → Fields
+unfoldable pub nextFields : Fields → RowFormat → Pointer → WindowInHand → Fields
 nextFields f format link window = record {
   row = f .row + 1;
   left = f .left - linesTaken format (f .left);
@@ -44,14 +46,20 @@ pub record BackgroundRow : Type 0 where
   pub block : RowBlock
   pub format : RowFormat
 
--- "the whole row block, then its redefinition (7), 9, 10"
+-- "the whole row block, then its redefinition (7)"
+unfoldable pub backgroundBlock : Bool → Pointer → RowFormat → Reading BackgroundRow
+backgroundBlock linear p format = do
+  b ← rowBlockAt linear p
+  t ← redefined linear (b .redefinition) format
+  done (record { block = b; format = t })
+
+-- ".. 9, 10". Refusal 9: "V > L, code pointer not null"; 10: "background widths sum above 132"
 unfoldable pub backgroundRow : Settings → Fields → Reading BackgroundRow
 backgroundRow σ f = do
-  b ← rowBlockAt (σ .linear) (f .next)
-  format ← redefined (σ .linear) (b .redefinition) (f .format)
-  check 9 (allFit (b .segments))
-  check 10 (leb (total (σ .hidden) (b .segments)) 132)
-  done (record { block = b; format = format })
+  g ← backgroundBlock (σ .linear) (f .next) (f .format)
+  check 9 (allFit (g .block .segments))
+  check 10 (leb (total (σ .hidden) (g .block .segments)) 132)
+  done g
 
 abbrev pub planned : Fields → BackgroundRow → Overlaid → Plan
 planned f g o = record {
@@ -71,11 +79,16 @@ fromBlocks σ f = do
   check 12 (edgesFit (σ .hidden) (o .overlay) (g .block .segments))
   done (planned f g o)
 
--- "Row: 1 to 5; .."
-unfoldable pub plan : Settings → Fields → Reading Plan
-plan σ f = do
-  check 2 (good σ)
+-- "Row: 1 to 5; .." Refusal 3: "state out of range"; 4: "no lines left"; 5: "row number 4095 or more"
+abbrev pub fromState : Settings → Fields → Reading Plan
+fromState σ f = do
   check 3 (inRange f)
   check 4 (ltb 0 (f .left))
   check 5 (ltb (f .row) 4095)
   fromBlocks σ f
+
+-- check 2 comes before them; check 1, on the row buffer, is the row call's
+unfoldable pub plan : Settings → Fields → Reading Plan
+plan σ f = do
+  checkSettings σ
+  fromState σ f

@@ -8,14 +8,17 @@ use blocks::WindowRead;
 use layout::OverlayHead;
 use layout::overlay;
 use layout::overlay::OverlayRead;
+use memory::Fault;
+use memory::Pointer;
 use settings::Settings;
+use settings::SettingsCheck;
 use state::Fields;
 ghost use mathlib.Core.Path.{_≡_};
 ghost use mathlib.Core.Bool.{true};
 ghost use Prim.Native.Nat.{_<_};
-ghost use Rattle.memory.specs.Reading.{run};
+ghost use Rattle.memory.specs.Reading.{fault, run};
 ghost use Rattle.state.specs.State.{inRange};
-ghost use Rattle.plan.specs.Plan.{linesTaken, nextFields, backgroundRow, fromBlocks, plan};
+ghost use Rattle.plan.specs.Plan.{linesTaken, nextFields, backgroundBlock, backgroundRow, fromBlocks, fromState, plan};
 ghost use Rattle.plan.specs.Answers.{backgroundRead, planAnswer};
 
 // A row's plan but for the segments: `count` of the background's, and the words read.
@@ -28,15 +31,16 @@ pub struct PlanHead {
     pub words: u32,
 }
 
+// The plan of a row, or the refusal of a check or a reading.
 pub enum PlanAnswer {
     Planned(PlanHead),
-    Refused { number: u8, address: u32 },
+    Refused(Fault),
 }
 
-// A row's block, its words with those of its redefinition, and the format that this makes.
-enum BackgroundRead {
+// A row's block, its words with those of its redefinition, and the format that this makes; or a refusal.
+pub enum BackgroundRead {
     Read { block: BlockHead, format: RowFormat },
-    Refused { number: u8, address: u32 },
+    Refused(Fault),
 }
 
 // The plan of a row, with the words of its background segments in `back` and of its window's in `over`.
@@ -49,9 +53,53 @@ pub fn plan_row(
 ) -> PlanAnswer
     ensures { λ r. ⌜ planAnswer (settings .linear) r (now (back .exit)) (now (over .exit)) ≡ run (now (mem .entry)) (plan settings fields) ⌝ }
 {
-    if !settings::is_good(settings) {
-        return refused(2);
+    match settings::check_settings(settings) {
+        SettingsCheck::Refused(fault) => PlanAnswer::Refused(fault),
+        SettingsCheck::Passed => plan_state(mem, settings, fields, back, over),
     }
+}
+
+// The whole row block that a pointer leads to, with the words of its segments in `back`, then its redefinition of a format.
+pub fn background_block(
+    mem: &[u16],
+    linear: bool,
+    p: Pointer,
+    format: RowFormat,
+    back: &mut [u16; 75],
+) -> BackgroundRead
+    ensures { λ r. ⌜ backgroundRead linear r (now (back .exit)) ≡ run (now (mem .entry)) (backgroundBlock linear p format) ⌝ }
+{
+    match blocks::row_block(mem, linear, p, back) {
+        BlockRead::Read(b) => {
+            let redefinition = b.redefinition;
+            match blocks::redefinition(mem, linear, redefinition, format) {
+                FormatRead::Read { format, words } => {
+                    let link = b.link;
+                    let block = BlockHead {
+                        link,
+                        redefinition,
+                        count: b.count,
+                        words: b.words + words,
+                    };
+                    BackgroundRead::Read { block, format }
+                }
+                FormatRead::Refused(fault) => BackgroundRead::Refused(fault),
+            }
+        }
+        BlockRead::Refused(fault) => BackgroundRead::Refused(fault),
+    }
+}
+
+// The plan of a row whose settings are checked: checks 3 to 5 on the state.
+fn plan_state(
+    mem: &[u16],
+    settings: Settings,
+    fields: Fields,
+    back: &mut [u16; 75],
+    over: &mut [u16; 75],
+) -> PlanAnswer
+    ensures { λ r. ⌜ planAnswer (settings .linear) r (now (back .exit)) (now (over .exit)) ≡ run (now (mem .entry)) (fromState settings fields) ⌝ }
+{
     if !state::in_range(fields) {
         return refused(3);
     }
@@ -92,7 +140,8 @@ fn plan_blocks(
                             back,
                             block.count,
                         ) {
-                            let next = next_fields(fields, format, block.link, window);
+                            let link = block.link;
+                            let next = next_fields(fields, format, link, window);
                             PlanAnswer::Planned(PlanHead {
                                 lines: lines_taken(format, fields.left),
                                 format,
@@ -105,22 +154,20 @@ fn plan_blocks(
                             refused(12)
                         }
                     }
-                    OverlayRead::Refused { number, address } => {
-                        PlanAnswer::Refused { number, address }
-                    }
+                    OverlayRead::Refused(fault) => PlanAnswer::Refused(fault),
                 }
             }
-            BackgroundRead::Refused { number, address } => PlanAnswer::Refused { number, address },
+            BackgroundRead::Refused(fault) => PlanAnswer::Refused(fault),
         },
-        WindowRead::Refused { number, address } => PlanAnswer::Refused { number, address },
+        WindowRead::Refused(fault) => PlanAnswer::Refused(fault),
     }
 }
 
-// The refusal of a check: its address is 0.
+// The refusal of a check.
 fn refused(number: u8) -> PlanAnswer
-    ensures { λ r. ⌜ r ≡ PlanAnswer.Refused number 0 ⌝ }
+    ensures { λ r. ⌜ r ≡ PlanAnswer.Refused (fault number) ⌝ }
 {
-    PlanAnswer::Refused { number, address: 0 }
+    PlanAnswer::Refused(memory::fault_of(number))
 }
 
 // The whole row block, then its redefinition; then checks 9 and 10 on its segments.
@@ -132,47 +179,20 @@ fn background_row(
 ) -> BackgroundRead
     ensures { λ r. ⌜ backgroundRead (settings .linear) r (now (back .exit)) ≡ run (now (mem .entry)) (backgroundRow settings fields) ⌝ }
 {
+    let next = fields.next;
     let format = fields.format;
-    match blocks::row_block(mem, settings.linear, fields.next, back) {
-        BlockRead::Read(b) => {
-            match blocks::redefinition(mem, settings.linear, b.redefinition, format) {
-                FormatRead::Read { format, words } => {
-                    let m = layout::measure_segments(
-                        settings.linear,
-                        settings.hidden,
-                        back,
-                        b.count,
-                    );
-                    if !m.fit {
-                        return BackgroundRead::Refused {
-                            number: 9,
-                            address: 0,
-                        };
-                    }
-                    if 132 < m.width {
-                        return BackgroundRead::Refused {
-                            number: 10,
-                            address: 0,
-                        };
-                    }
-                    let block = BlockHead {
-                        link: b.link,
-                        redefinition: b.redefinition,
-                        count: b.count,
-                        words: b.words + words,
-                    };
-                    BackgroundRead::Read { block, format }
-                }
-                FormatRead::Missing(at) => BackgroundRead::Refused {
-                    number: 7,
-                    address: at,
-                },
+    match background_block(mem, settings.linear, next, format, back) {
+        BackgroundRead::Read { block, format } => {
+            let m = layout::measure_segments(settings.linear, settings.hidden, back, block.count);
+            if !m.fit {
+                return BackgroundRead::Refused(memory::fault_of(9));
             }
+            if 132 < m.width {
+                return BackgroundRead::Refused(memory::fault_of(10));
+            }
+            BackgroundRead::Read { block, format }
         }
-        BlockRead::Missing(at) => BackgroundRead::Refused {
-            number: 7,
-            address: at,
-        },
+        BackgroundRead::Refused(fault) => BackgroundRead::Refused(fault),
     }
 }
 
@@ -185,7 +205,7 @@ fn lines_taken(format: RowFormat, left: u16) -> u16
 }
 
 // The fields of the next state, whose row block is at `link`.
-fn next_fields(f: Fields, format: RowFormat, link: u32, window: WindowInHand) -> Fields
+fn next_fields(f: Fields, format: RowFormat, link: Pointer, window: WindowInHand) -> Fields
     requires { ⌜ f .row < 4095 ⌝ }
     ensures { λ r. ⌜ r ≡ nextFields f format link window ⌝ }
 {

@@ -1,3 +1,4 @@
 pub mod GoodLaws
 pub mod CodeLaws
 pub mod FieldSum
+pub mod CheckLaws

@@ -2,6 +2,7 @@
 use Prim.Native.Nat.{ℕ, _-_, _%_, _<_, _≤_}
 use mathlib.Core.Bool.{Bool, true, false, _&&_}
 use lib.Dec.{ltb, leb, eqb}
+use Rattle.memory.specs.Reading.{Reading, check}
 use Rattle.settings.specs.declared.Interlace.{Interlace}
 use Rattle.settings.specs.declared.Interlace.the-variants.{Progressive, RepeatField, Video}
 use Rattle.settings.specs.declared.Settings.{Settings}
@@ -45,6 +46,10 @@ fitsMode Video σ = fitsFields σ
 
 unfoldable pub good : Settings → Bool
 good σ = inRange σ && inOrder σ && fitsMode (σ .interlace) σ
+
+-- the checks on settings that a start, a row and an effect begin with. Refusal 2: "settings not good"
+unfoldable pub checkSettings : Settings → Reading (Unit {0})
+checkSettings σ = check 2 (good σ)
 
 -- facts on numbers that good settings give, as far as the sheet's sums need them
 pub record Ordered (σ : Settings) : Type 0 where

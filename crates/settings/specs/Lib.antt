@@ -1,3 +1,4 @@
 pub mod Good
 pub mod Timing
 pub mod Sheet
+pub mod Answers

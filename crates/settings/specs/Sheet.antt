@@ -1,5 +1,6 @@
 -- Document 01: "The settings sheet gives these, or refusal 2".
 use Rattle.memory.specs.Word.{if_then_else_}
+use Rattle.memory.specs.Reading.{fault, refusal}
 use Rattle.settings.specs.declared.Settings.{Settings}
 use Rattle.settings.specs.declared.Sheet.{Sheet}
 use Rattle.settings.specs.declared.SheetAnswer.{SheetAnswer}
@@ -12,4 +13,4 @@ sheetOf σ = record { timing = timing σ; lines = linesForRows σ; clocks = cloc
 
 -- a sheet's refusal has row 0 and address 0
 unfoldable pub sheetCall : Settings → SheetAnswer
-sheetCall σ = if good σ then Given (sheetOf σ) else Refused (record { number = 2; row = 0; address = 0 })
+sheetCall σ = if good σ then Given (sheetOf σ) else Refused (refusal 0 (fault 2))

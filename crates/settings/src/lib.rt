@@ -1,10 +1,14 @@
 // The settings of a desk, and the settings sheet: timing, lines for rows, clocks and invoking codes.
+use memory::Fault;
 use memory::Refusal;
 ghost use mathlib.Core.Path.{_≡_};
-ghost use Prim.Native.Nat.{_-_, _*_, _≤_};
-ghost use Rattle.settings.specs.Good.{good, inRange, inOrder, fitsFields, fitsMode, Ordered};
+ghost use mathlib.Core.List.{List};
+ghost use Prim.Native.Nat.{ℕ, _-_, _*_, _≤_};
+ghost use Rattle.memory.specs.Reading.{runFrom};
+ghost use Rattle.settings.specs.Good.{good, inRange, inOrder, fitsFields, fitsMode, checkSettings, Ordered};
 ghost use Rattle.settings.specs.Timing.{halfLines, timing, linesForRows, clocks, invokingCodes};
 ghost use Rattle.settings.specs.Sheet.{sheetOf, sheetCall};
+ghost use Rattle.settings.specs.Answers.{settingsChecked};
 
 // The interlace mode: none, repeat field (RFI) or video (IV).
 pub enum Interlace {
@@ -19,6 +23,8 @@ pub struct PointerWords {
     pub second: u16,
 }
 
+// A desk's settings: linear or segmented memory, Display Hidden, the interlace mode, cursor enable, the attribute flag (mask high
+// byte, value low byte), TOP and TOW, and the numbers of the timing.
 pub struct Settings {
     pub linear: bool,
     pub hidden: bool,
@@ -62,9 +68,16 @@ pub struct Sheet {
     pub invoking: u16,
 }
 
+// The settings sheet, or that the settings are refused.
 pub enum SheetAnswer {
     Given(Sheet),
     Refused(Refusal),
+}
+
+// That the settings pass the checks of a call that draws, or the refusal.
+pub enum SettingsCheck {
+    Passed,
+    Refused(Fault),
 }
 
 // The settings sheet, or refusal 2.
@@ -74,11 +87,18 @@ pub fn settings_sheet(settings: Settings) -> SheetAnswer
     if is_good(settings) {
         SheetAnswer::Given(sheet_of(settings))
     } else {
-        SheetAnswer::Refused(Refusal {
-            number: 2,
-            row: 0,
-            address: 0,
-        })
+        SheetAnswer::Refused(memory::refusal_of(0, memory::fault_of(2)))
+    }
+}
+
+// The checks on settings that a start, a row and an effect begin with.
+pub fn check_settings(settings: Settings) -> SettingsCheck
+    ensures { λ r. ⌜ ((n : ℕ) (m : List ℕ) → settingsChecked n r ≡ runFrom n m (checkSettings settings)) ⌝ }
+{
+    if is_good(settings) {
+        SettingsCheck::Passed
+    } else {
+        SettingsCheck::Refused(memory::fault_of(2))
     }
 }
 

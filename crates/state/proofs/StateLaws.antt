@@ -10,24 +10,26 @@ use Rattle.blocks.specs.declared.WindowInHand.the-variants.{Absent, Present}
 use Rattle.blocks.specs.Window.{inOrder}
 use Rattle.blocks.proofs.BlockBounds.{Placed, in-order}
 use Rattle.state.specs.declared.Fields.{Fields}
-use Rattle.state.specs.State.{formatInRange, isAddress, windowInRange, inRange}
+use Rattle.memory.specs.Address.{isAddress}
+use Rattle.state.specs.State.{formatInRange, windowInRange, inRange}
 
 -- a window of a state in range is in order
 pub window-placed : (w : WindowInHand) → windowInRange w ≡ true → Placed w
 unfolding windowInRange
 window-placed Absent h = tt
-window-placed (Present w) h = in-order w (both (inOrder w) _ (both (inOrder w && isAddress (w .rows)) _ h .0) .0)
+window-placed (Present w) h =
+    in-order (w .block) (both (inOrder (w .block)) _ (both (inOrder (w .block) && isAddress (w .rows .address)) _ h .0) .0)
 
 pub placed : (f : Fields) → inRange f ≡ true → Placed (f .window)
 unfolding inRange
 placed f h =
     window-placed (f .window)
-    (both (leb (f .row + f .left) 4095 && formatInRange (f .format) && isAddress (f .next)) (windowInRange (f .window)) h .1)
+    (both (leb (f .row + f .left) 4095 && formatInRange (f .format) && isAddress (f .next .address)) (windowInRange (f .window)) h .1)
 
 -- a state in range has a scan line to a row at least
 pub has-line : (f : Fields) → inRange f ≡ true → 1 ≤ f .format .lines
 unfolding inRange
 has-line f h =
     let t = f .format in
-    let ranged = both (leb (f .row + f .left) 4095) (formatInRange t) (both _ (isAddress (f .next)) (both _ (windowInRange (f .window)) h .0) .0) .1 in
+    let ranged = both (leb (f .row + f .left) 4095) (formatInRange t) (both _ (isAddress (f .next .address)) (both _ (windowInRange (f .window)) h .0) .0) .1 in
     leb-true 1 (t .lines) (both (leb 1 (t .lines)) _ (both _ (leb (t .curs) 31) (both _ (leb (t .cure) 31) (both _ (leb (t .attributes) 1023) ranged .0) .0) .0) .0)

@@ -1,8 +1,8 @@
 -- Document 01, "Blocks": the state, and refusal 3, a state out of range.
-use Prim.Native.Nat.{ℕ, _+_, _%_}
+use Prim.Native.Nat.{ℕ, _+_}
 use mathlib.Core.Bool.{Bool, true, _&&_}
-use lib.Dec.{ltb, leb, eqb}
-use Rattle.memory.specs.declared.Refusal.{Refusal}
+use lib.Dec.{leb}
+use Rattle.memory.specs.Address.{isAddress}
 use Rattle.blocks.specs.declared.RowFormat.{RowFormat}
 use Rattle.blocks.specs.declared.WindowInHand.{WindowInHand}
 use Rattle.blocks.specs.declared.WindowInHand.the-variants.{Absent, Present}
@@ -19,19 +19,12 @@ stateOf latch f = record { latch = latch; fields = f }
 abbrev pub formatInRange : RowFormat → Bool
 formatInRange t = leb 1 (t .lines) && leb (t .lines) 32 && leb (t .curs) 31 && leb (t .cure) 31 && leb (t .attributes) 1023
 
--- "an address odd or above 24 bits"
-abbrev pub isAddress : ℕ → Bool
-isAddress a = eqb (a % 2) 0 && ltb a 16777216
-
 -- "window rows or columns out of order or range"
 unfoldable pub windowInRange : WindowInHand → Bool
 windowInRange Absent = true
-windowInRange (Present w) = inOrder w && isAddress (w .rows) && isAddress (w .link)
+windowInRange (Present w) = inOrder (w .block) && isAddress (w .rows .address) && isAddress (w .block .link .address)
 
 -- Refusal 3: "state out of range: row + lines left > 4095, .."
 unfoldable pub inRange : Fields → Bool
-inRange f = leb (f .row + f .left) 4095 && formatInRange (f .format) && isAddress (f .next) && windowInRange (f .window)
-
--- "the row is 0 at the start, else the state's"
-abbrev pub refusal : ℕ → ℕ → ℕ → Refusal
-refusal row number address = record { number = number; row = row; address = address }
+inRange f =
+    leb (f .row + f .left) 4095 && formatInRange (f .format) && isAddress (f .next .address) && windowInRange (f .window)

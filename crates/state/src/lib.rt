@@ -3,8 +3,9 @@ use blocks::Cursor;
 use blocks::FillMode;
 use blocks::RowFormat;
 use blocks::WindowInHand;
+use memory::Pointer;
 ghost use mathlib.Core.Path.{_≡_};
-ghost use Rattle.state.specs.State.{formatInRange, isAddress, windowInRange, inRange};
+ghost use Rattle.state.specs.State.{formatInRange, windowInRange, inRange};
 
 // The state's fields other than the latch: row number, lines left, cursor, fill, format (scan lines, row attributes, CURS,
 // CURE), next row block and the window in hand.
@@ -14,7 +15,7 @@ pub struct Fields {
     pub cursor: Cursor,
     pub fill: FillMode,
     pub format: RowFormat,
-    pub next: u32,
+    pub next: Pointer,
     pub window: WindowInHand,
 }
 
@@ -32,7 +33,7 @@ pub fn in_range(f: Fields) -> bool
     let window = f.window;
     (f.row as u32 + f.left as u32 <= 4095)
         & format_in_range(format)
-        & is_address(f.next)
+        & memory::is_address(f.next.address)
         & window_in_range(window)
 }
 
@@ -42,19 +43,16 @@ fn format_in_range(t: RowFormat) -> bool
     (1 <= t.lines) & (t.lines <= 32) & (t.curs <= 31) & (t.cure <= 31) & (t.attributes <= 1023)
 }
 
-fn is_address(a: u32) -> bool
-    ensures { λ r. ⌜ r ≡ isAddress a ⌝ }
-{
-    (a % 2 == 0) & (a < 16777216)
-}
-
 fn window_in_range(in_hand: WindowInHand) -> bool
     ensures { λ r. ⌜ r ≡ windowInRange «in_hand» ⌝ }
 {
     match in_hand {
         WindowInHand::Absent => true,
         WindowInHand::Present(w) => {
-            blocks::in_order(w) & is_address(w.rows) & is_address(w.link)
+            let block = w.block;
+            blocks::in_order(block)
+                & memory::is_address(w.rows.address)
+                & memory::is_address(w.block.link.address)
         }
     }
 }

@@ -1,7 +1,7 @@
 use mathlib.Core.Path.{sym, _∙_}
 use borrow.Author.Tests.{eq-eqb, ne-eqb}
 use Rattle.memory.proofs.Laws.{step-given, step-refused, run-done}
-use Rattle.memory.proofs.WordLaws.{read-whole, read-missing}
+use Rattle.memory.proofs.WordLaws.{read-whole, read-refused}
 use Rattle.blocks.specs.RowBlock.{segmentsOf, blockAt}
 use Rattle.blocks.proofs.BlockLaws.{plain-block}
 use borrow.Author.Needs.{needs}
@@ -27,7 +27,7 @@ returns-3 c =
     let r = c .before .before .before .before .before .before .before .before .before .before .before .read-words in
     rw (ne-eqb _ 0 (c .before .before .before .before .before .before .before .before .before .before .before .before .before .if1 .left))
     (c .before .before .segments-from .ensures
-    ∙ rw (c .before .before .before .before .before .words-ahead .ensures)
+    ∙ rw (c .before .before .before .before .before .further .ensures)
     (sym (step-given 0 _ _ _ (read-whole _ _ 3 _ _ _ (r .ensures) (c .before .before .before .before .before .before .before .before .enum-told .given .1) (r .kept .1 .1 .1 .0))
     ∙ rw (sym (c .before .before .before .before .before .before .before .is-pointed .ensures) ∙ c .before .before .before .before .before .before .if2 .left) (plain-block _ _ _ _ _))))
 
@@ -35,7 +35,7 @@ returns-4 : tie.Need-returns-4
 unfolding blockAt
 returns-4 c =
     let r = c .before .before .before .before .read-words in
-    rw (ne-eqb _ 0 (c .before .before .before .before .before .before .if1 .left)) (sym (step-refused 0 _ _ _ (read-missing _ _ 3 _ _ _ (r .ensures) (c .before .at .given .1))))
+    rw (ne-eqb _ 0 (c .before .before .before .before .before .before .if1 .left)) (sym (step-refused 0 _ _ _ (read-refused _ _ 3 _ _ _ (r .ensures) (c .before .fault .given .1))))
 
 pub block-at-spec : {M : Type 1} → statement M
 block-at-spec =

@@ -12,7 +12,7 @@ returns c = rw (c .enum-told .given .1) (sym (run-done _ _ _))
 
 returns-2 : tie.Need-returns-2
 unfolding dueWindow
-returns-2 c = rw (c .before .before .before .before .before .in-hand .given .1, lt-ltb _ _ (c .before .before .if1 .taken)) (c .window-at .ensures)
+returns-2 c = rw (c .before .before .before .before .before .before .in-hand .given .1, lt-ltb _ _ (c .before .before .before .if1 .taken)) (c .window-at .ensures)
 
 returns-3 : tie.Need-returns-3
 unfolding dueWindow

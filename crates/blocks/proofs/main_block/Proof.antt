@@ -1,7 +1,7 @@
 use mathlib.Core.Path.{sym, ap, _∙_}
 use Rattle.memory.specs.Reading.{given}
 use Rattle.memory.proofs.Laws.{step-given, step-refused, run-done}
-use Rattle.memory.proofs.WordLaws.{read-whole, read-missing}
+use Rattle.memory.proofs.WordLaws.{read-whole, read-refused}
 use Rattle.blocks.specs.Main.{mainBlockAt}
 use borrow.Author.Needs.{needs}
 use Rattle.blocks.proofs.main_block.Statement.{statement}
@@ -18,7 +18,7 @@ returns-2 : tie.Need-returns-2
 unfolding mainBlockAt
 returns-2 c =
     let r = c .before .before .before .before .read-words in
-    sym (step-refused 0 _ _ _ (read-missing _ _ 7 _ _ _ (r .ensures) (c .before .at .given .1)))
+    sym (step-refused 0 _ _ _ (read-refused _ _ 7 _ _ _ (r .ensures) (c .before .fault .given .1)))
 
 pub main-block-spec : {M : Type 1} → statement M
 main-block-spec =

@@ -2,7 +2,7 @@ use mathlib.Core.Path.{sym, ap, _∙_}
 use borrow.Author.Tests.{eq-eqb, ne-eqb}
 use Rattle.memory.specs.Reading.{given}
 use Rattle.memory.proofs.Laws.{step-given, step-refused, run-done}
-use Rattle.memory.proofs.WordLaws.{read-whole, read-missing}
+use Rattle.memory.proofs.WordLaws.{read-whole, read-refused}
 use Rattle.blocks.specs.RowBlock.{redefined}
 use borrow.Author.Needs.{needs}
 use Rattle.blocks.proofs.redefinition.Statement.{statement}
@@ -24,7 +24,7 @@ returns-3 : tie.Need-returns-3
 unfolding redefined
 returns-3 c =
     let r = c .before .before .before .before .read-words in
-    rw (ne-eqb _ 0 (c .before .before .before .before .before .before .if1 .left)) (sym (step-refused 0 _ _ _ (read-missing _ _ 3 _ _ _ (r .ensures) (c .before .at .given .1))))
+    rw (ne-eqb _ 0 (c .before .before .before .before .before .before .if1 .left)) (sym (step-refused 0 _ _ _ (read-refused _ _ 3 _ _ _ (r .ensures) (c .before .fault .given .1))))
 
 pub redefinition-spec : {M : Type 1} → statement M
 redefinition-spec =

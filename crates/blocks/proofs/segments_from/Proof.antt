@@ -2,7 +2,7 @@ use mathlib.Core.Path.{sym}
 use mathlib.Core.List.{[]}
 use lib.Seq.{length-take-le}
 use native.Mathlib.Omega.{arith}
-use Rattle.blocks.proofs.BlockLaws.{segments-whole, segments-missing}
+use Rattle.blocks.proofs.BlockLaws.{segments-whole, segments-refused}
 use borrow.Author.Needs.{needs}
 use Rattle.blocks.proofs.segments_from.Statement.{statement}
 use Rattle.blocks.proofs.segments_from.Tie as tie
@@ -14,13 +14,13 @@ returns : tie.Need-returns
 returns c =
     let r = c .before .before .before .before .before .before .before .read-words in
     segments-whole _ _ _ (c .before .before .before .before .before .before .before .before .before .before .before .before .before .args .head .now) _ _ _ _ (c .before .before .before .before .before .before .before .before .before .segment-count .ensures) (length-take-le _ _ (omega arith)) _ _ _ (r .ensures)
-    _ (c .pointer .ensures) (c .before .before .before .enum-told .given .1) (r .kept .1 .1 .1 .0)
+    _ (c .pointer-of .ensures) (c .before .before .before .enum-told .given .1) (r .kept .1 .1 .1 .0)
 
 returns-2 : tie.Need-returns-2
 returns-2 c =
     let r = c .before .before .before .before .before .read-words in
-    segments-missing _ _ _ (c .before .before .before .before .before .before .before .before .before .before .before .args .head .now) (c .before .before .before .before .before .before .before .before .before .before .before .args .redefinition) _ _ _ (c .before .before .before .before .before .before .before .segment-count .ensures) (length-take-le _ _ (omega arith)) _ _ [] (r .ensures)
-    _ (c .before .at .given .1)
+    segments-refused _ _ _ (c .before .before .before .before .before .before .before .before .before .before .before .args .head .now) (c .before .before .before .before .before .before .before .before .before .before .before .args .redefinition) _ _ _ (c .before .before .before .before .before .before .before .segment-count .ensures) (length-take-le _ _ (omega arith)) _ _ [] (r .ensures)
+    _ (c .before .fault .given .1)
 
 pub segments-from-spec : {M : Type 1} → statement M
 segments-from-spec =

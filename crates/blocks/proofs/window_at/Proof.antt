@@ -2,7 +2,7 @@ use mathlib.Core.Path.{sym, _∙_}
 use borrow.Author.Tests.{eq-eqb, ne-eqb}
 use Rattle.memory.specs.Reading.{given}
 use Rattle.memory.proofs.Laws.{step-given, step-refused, run-done, check-passed, check-failed}
-use Rattle.memory.proofs.WordLaws.{read-whole, read-missing}
+use Rattle.memory.proofs.WordLaws.{read-whole, read-refused}
 use Rattle.blocks.specs.Window.{windowAt}
 use borrow.Author.Needs.{needs}
 use Rattle.blocks.proofs.window_at.Statement.{statement}
@@ -15,24 +15,24 @@ returns c = rw (eq-eqb _ 0 (c .if1 .taken)) (sym (run-done _ _ _))
 returns-2 : tie.Need-returns-2
 unfolding windowAt
 returns-2 c =
-    let r = c .before .before .before .before .before .before .before .read-words in
-    rw (ne-eqb _ 0 (c .before .before .before .before .before .before .before .before .before .if1 .left), c .before .before .window-of .ensures)
-    (sym (step-given 0 _ _ _ (read-whole _ _ 6 _ _ _ (r .ensures) (c .before .before .before .before .enum-told .given .1) (r .kept .1 .1 .1 .0))
-    ∙ check-passed _ _ _ _ _ (sym (rw (c .before .before .window-of .ensures) at (c .before .may-follow .ensures)) ∙ c .if2 .taken) ∙ run-done _ _ _))
+    let r = c .before .before .before .before .before .before .before .before .read-words in
+    rw (ne-eqb _ 0 (c .before .before .before .before .before .before .before .before .before .before .if1 .left), c .before .before .before .window-of .ensures)
+    (sym (step-given 0 _ _ _ (read-whole _ _ 6 _ _ _ (r .ensures) (c .before .before .before .before .before .enum-told .given .1) (r .kept .1 .1 .1 .0))
+    ∙ check-passed _ _ _ _ _ (sym (rw (c .before .before .before .window-of .ensures) at (c .before .may-follow .ensures)) ∙ c .if2 .taken) ∙ run-done _ _ _))
 
 returns-3 : tie.Need-returns-3
 unfolding windowAt
 returns-3 c =
-    let r = c .before .before .before .before .before .before .before .read-words in
-    rw (ne-eqb _ 0 (c .before .before .before .before .before .before .before .before .before .if1 .left))
-    (sym (step-given 0 _ _ _ (read-whole _ _ 6 _ _ _ (r .ensures) (c .before .before .before .before .enum-told .given .1) (r .kept .1 .1 .1 .0))
-    ∙ check-failed _ _ _ _ _ (sym (rw (c .before .before .window-of .ensures) at (c .before .may-follow .ensures)) ∙ c .if2 .left)))
+    let r = c .before .before .before .before .before .before .before .before .before .read-words in
+    rw (c .fault-of .ensures, ne-eqb _ 0 (c .before .before .before .before .before .before .before .before .before .before .before .if1 .left))
+    (sym (step-given 0 _ _ _ (read-whole _ _ 6 _ _ _ (r .ensures) (c .before .before .before .before .before .before .enum-told .given .1) (r .kept .1 .1 .1 .0))
+    ∙ check-failed _ _ _ _ _ (sym (rw (c .before .before .before .before .window-of .ensures) at (c .before .before .may-follow .ensures)) ∙ c .before .if2 .left)))
 
 returns-4 : tie.Need-returns-4
 unfolding windowAt
 returns-4 c =
     let r = c .before .before .before .before .read-words in
-    rw (ne-eqb _ 0 (c .before .before .before .before .before .before .if1 .left)) (sym (step-refused 0 _ _ _ (read-missing _ _ 6 _ _ _ (r .ensures) (c .before .at .given .1))))
+    rw (ne-eqb _ 0 (c .before .before .before .before .before .before .if1 .left)) (sym (step-refused 0 _ _ _ (read-refused _ _ 6 _ _ _ (r .ensures) (c .before .fault .given .1))))
 
 pub window-at-spec : {M : Type 1} → statement M
 window-at-spec =
@@ -42,6 +42,7 @@ window-at-spec =
     (λ c. search needs)
     (λ c κs. search needs)
     (λ c. search needs)
+    (λ c κs. search needs)
     (λ c κs. search needs)
     (λ c κs. search needs)
     (λ c. search needs)

@@ -6,7 +6,7 @@ use Rattle.blocks.proofs.window_of.Tie as tie
 returns : tie.Need-returns
 unfolding windowOf
 returns c =
-    rw (c .pointer2 .ensures, c .before .before .before .pointer .ensures, c .before .before .before .before .before .before .low-byte2 .ensures, c .before .before .before .before .before .before .before .before .high-byte2 .ensures, c .before .before .before .before .before .before .before .before .before .before .low-byte .ensures, c .before .before .before .before .before .before .before .before .before .before .before .before .high-byte .ensures)
+    rw (c .pointer-of2 .ensures, c .before .before .before .pointer-of .ensures, c .before .before .before .before .before .before .low-byte2 .ensures, c .before .before .before .before .before .before .before .before .high-byte2 .ensures, c .before .before .before .before .before .before .before .before .before .before .low-byte .ensures, c .before .before .before .before .before .before .before .before .before .before .before .before .high-byte .ensures)
 
 pub window-of-spec : {M : Type 1} → statement M
 window-of-spec =

@@ -1,5 +1,5 @@
 use borrow.Author.Needs.{needs}
-use Rattle.memory.specs.Address.{isRun}
+use Rattle.memory.specs.Answers.{isRun}
 use Rattle.memory.proofs.is_run.Statement.{statement}
 use Rattle.memory.proofs.is_run.Tie as tie
 

@@ -1,3 +1,4 @@
+-- Each turn reads one word more: what is left to read, after the words in the front of the slice, is the whole reading.
 use mathlib.Core.Path.{_≡_, refl, sym, _∙_}
 use mathlib.Core.List.{_++_, append-assoc, append-nil}
 use Prim.Native.Nat.{_≤_, _<_, _-_}
@@ -15,21 +16,22 @@ use Rattle.memory.proofs.read_words.Statement.{statement}
 use Rattle.memory.proofs.read_words.Tie as tie
 
 abbrev Inv-loop : tie.InvT-loop
-Inv-loop mem linear a into₀ at₀ i₀ into at i =
+Inv-loop mem linear into₀ at₀ i₀ into at i =
     (i ≤ length into₀) × (length into ≡ length into₀)
-    × (run mem (words linear (length into₀) a) ≡ runFrom i mem (words linear (length into₀ - i) at >>= λ ws. done (take i into ++ ws)))
+    × (run mem (words linear (length into₀) at₀) ≡ runFrom i mem (words linear (length into₀ - i) at >>= λ ws. done (take i into ++ ws)))
 
 abbrev μ-loop : tie.MeasureT-loop
-μ-loop mem linear a into₀ at₀ i₀ into at i = length into₀ - i
+μ-loop mem linear into₀ at₀ i₀ into at i = length into₀ - i
 
 loop-holds : tie.Need-loop-holds Inv-loop μ-loop
 loop-holds c = (omega arith, refl, rw sub-zero (bind-done _ _ _))
 
 returns : tie.Need-returns Inv-loop μ-loop
 returns c =
-    let d = c .before .before .before .before in
-    sym (d .loop .inv .2
-    ∙ words-absent _ _ _ _ _ _ (omega arith) (sym (c .before .before .word-at .ensures) ∙ c .enum-told .given .1))
+    let r = c .before .before .before in
+    let l = r .before .before .loop in
+    rw (c .missing .ensures)
+    (sym (l .inv .2 ∙ words-absent _ _ _ _ _ _ (omega arith) (sym (r .word-at .ensures) ∙ c .before .enum-told .given .1)))
 
 loop-again : tie.Need-loop-again Inv-loop μ-loop
 loop-again c =
@@ -40,7 +42,7 @@ loop-again c =
       simp length-set (l .inv .1),
       l .inv .2
           ∙ words-word _ _ _ _ _ _ _ (omega arith) (sym (r .word-at .ensures) ∙ c .before .before .w .given .1)
-          ∙ rw (c .next-word .ensures, take-next (l .into) (l .i) _ k, sub-add-eq) (simp append-assoc),
+          ∙ rw (c .onward .ensures, take-next (l .into) (l .i) _ k, sub-add-eq) (simp append-assoc),
     )
 
 returns-2 : tie.Need-returns-2 Inv-loop μ-loop
@@ -59,6 +61,7 @@ read-words-spec =
     (λ c κs. search needs)
     (λ c. search needs)
     (λ c. search needs)
+    (λ c κs. search needs)
     (λ c. search needs)
     returns
     (λ c. search needs)

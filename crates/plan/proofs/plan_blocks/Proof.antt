@@ -1,3 +1,4 @@
+-- The blocks of a row are read one after the other, as the rule says; 167 words at most, so the sums fit.
 use mathlib.Core.Path.{sym, _∙_}
 use Prim.Native.Nat.{_+_, _≤_}
 use native.Mathlib.Omega.{arith}
@@ -7,17 +8,15 @@ use Rattle.plan.proofs.plan_blocks.Statement.{statement}
 use Rattle.plan.proofs.plan_blocks.Tie as tie
 
 next-fields-requires : tie.Need-next-fields-requires
-next-fields-requires c κs =
-    let y = c .before .before .before .before .before .before .before .before .before in
-    y .before .before .before .before .before .before .before .before .before .pre .1
+next-fields-requires c κs = c .before .before .before .before .before .before .before .before .before .before .before .before .before .before .before .before .before .before .before .pre .1
 
 -- the words of the window block, of the row block with its redefinition, and of the window row block
 few-words : (c : tie.After-struct-known)
-    → c .before .before .before .before .before .before .before .before .before .before .before .before .before .before .before .before .before .window .given .0 .1 .0
-    + c .before .before .before .before .before .before .before .before .before .before .before .before .block .given .0 .0 .words
-    + c .before .before .before .before .before .before .before .overlay .given .0 .1 .1 .0 ≤ 167
+    → c .before .before .before .before .before .before .before .before .before .before .before .before .before .before .before .before .before .before .window .given .0 .1 .0
+    + c .before .before .before .before .before .before .before .before .before .before .before .before .before .block .given .0 .0 .words
+    + c .before .before .before .before .before .before .before .before .overlay .given .0 .1 .1 .0 ≤ 167
 few-words c =
-    let x = c .before .before .before .before .before .before .before in
+    let x = c .before .before .before .before .before .before .before .before in
     let y = x .before .before .before .before .before in
     let z = y .before .before .before .before .before in
     let o = sym (rw (x .overlay .given .1) at (x .before .before .overlay-row .ensures)) in
@@ -26,22 +25,22 @@ few-words c =
     let a = z .before .before .before .before in
     plan-words _ (a .args .settings) (a .args .fields) w g o (λ i. z .before .before .before .shared-slice-known .given i .fits) (a .pre .0)
 
-add-t33 : tie.Need-add-t33
-add-t33 c = omega (arith, few-words c)
+add-t31 : tie.Need-add-t31
+add-t31 c = omega (arith, few-words c)
 
-add-t34 : tie.Need-add-t34
-add-t34 c = omega (arith, few-words c)
+add-t32 : tie.Need-add-t32
+add-t32 c = omega (arith, few-words c)
 
 returns : tie.Need-returns
 returns c =
-    let x = c .before .before .before .before .before .before .before in
+    let x = c .before .before .before .before .before .before .before .before in
     let y = x .before .before .before .before .before in
     let z = y .before .before .before .before .before in
     let o = sym (rw (x .overlay .given .1) at (x .before .before .overlay-row .ensures)) in
     let g = sym (rw (y .block .given .1) at (y .before .before .background-row .ensures)) in
     let w = sym (rw (z .window .given .1) at (z .before .before .due-window .ensures)) in
     rw (c .before .lines-taken .ensures, c .before .before .next-fields .ensures)
-    (sym (edges-on _ _ _ w g o (sym (c .before .before .before .before .edges-fit .ensures _) ∙ c .before .before .before .if1 .taken)))
+    (sym (edges-on _ _ _ w g o (sym (c .before .before .before .before .before .edges-fit .ensures _) ∙ c .before .before .before .before .if1 .taken)))
 
 returns-2 : tie.Need-returns-2
 returns-2 c =
@@ -59,16 +58,16 @@ returns-3 c =
     let z = y .before .before .before .before .before in
     let g = sym (rw (y .block .given .1) at (y .before .before .background-row .ensures)) in
     let w = sym (rw (z .window .given .1) at (z .before .before .due-window .ensures)) in
-    sym (overlay-refused _ _ _ w g (sym (rw (c .before .number .given .1) at (c .before .before .before .overlay-row .ensures))))
+    sym (overlay-refused _ _ _ w g (sym (rw (c .before .fault .given .1) at (c .before .before .before .overlay-row .ensures))))
 
 returns-4 : tie.Need-returns-4
 returns-4 c =
     let z = c .before .before .before .before .before .before in
     let w = sym (rw (z .window .given .1) at (z .before .before .due-window .ensures)) in
-    sym (background-refused _ _ _ w (sym (rw (c .before .number2 .given .1) at (c .before .before .before .background-row .ensures))))
+    sym (background-refused _ _ _ w (sym (rw (c .before .fault2 .given .1) at (c .before .before .before .background-row .ensures))))
 
 returns-5 : tie.Need-returns-5
-returns-5 c = sym (window-refused _ _ _ (sym (rw (c .before .number3 .given .1) at (c .before .before .before .due-window .ensures))))
+returns-5 c = sym (window-refused _ _ _ (sym (rw (c .before .fault3 .given .1) at (c .before .before .before .due-window .ensures))))
 
 pub plan-blocks-spec : {M : Type 1} → statement M
 plan-blocks-spec =
@@ -83,8 +82,8 @@ plan-blocks-spec =
     (λ c κs. search needs)
     next-fields-requires
     (λ c κs. search needs)
-    add-t33
-    add-t34
+    add-t31
+    add-t32
     (λ c κs. search needs)
     (λ c. search needs)
     (λ c. search needs)

@@ -1,3 +1,4 @@
+-- Good settings are the test, and meet what the sums of the sheet need.
 use mathlib.Core.Path.{sym, _∙_}
 use Rattle.settings.specs.Sheet.{sheetCall}
 use Rattle.settings.proofs.GoodLaws.{ordered}
@@ -14,7 +15,7 @@ returns c = rw (← c .before .before .is-good .ensures, c .before .if1 .taken, 
 
 returns-2 : tie.Need-returns-2
 unfolding sheetCall
-returns-2 c = rw (← c .before .is-good .ensures, c .if1 .left)
+returns-2 c = rw (← c .before .before .before .is-good .ensures, c .before .before .if1 .left, c .refusal-of .ensures, c .before .fault-of .ensures)
 
 pub settings-sheet-spec : {M : Type 1} → statement M
 settings-sheet-spec =
@@ -22,5 +23,7 @@ settings-sheet-spec =
     (tie.spec
     (λ c κs. search needs)
     sheet-of-requires
+    (λ c κs. search needs)
+    (λ c κs. search needs)
     returns
     returns-2)

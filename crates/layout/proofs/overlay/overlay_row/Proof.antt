@@ -13,13 +13,13 @@ returns-2 : tie.Need-returns-2
 unfolding overlaid
 returns-2 c =
     let y = c .before .before .before in
-    rw (y .before .before .in-hand .given .1, sym (y .on-rows .ensures) ∙ c .before .before .if1 .taken) (c .window-row .ensures)
+    rw (y .before .before .before .in-hand .given .1, sym (y .on-rows .ensures) ∙ c .before .before .if1 .taken) (c .window-row .ensures)
 
 returns-3 : tie.Need-returns-3
 unfolding overlaid
 returns-3 c =
     let y = c .before in
-    rw (y .before .before .in-hand .given .1, sym (y .on-rows .ensures) ∙ c .if1 .left) (sym (run-done _ _ _))
+    rw (y .before .before .before .in-hand .given .1, sym (y .on-rows .ensures) ∙ c .if1 .left) (sym (run-done _ _ _))
 
 pub overlay-row-spec : {M : Type 1} → statement M
 overlay-row-spec =

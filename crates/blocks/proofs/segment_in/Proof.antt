@@ -2,16 +2,16 @@ use mathlib.Core.Path.{sym}
 use Prim.Native.Nat.{_*_}
 use native.Mathlib.Omega.{arith}
 use lib.ListN.{drop-of-length-le}
 use Rattle.blocks.proofs.BlockLaws.{segment-at, segment-none}
 use borrow.Author.Needs.{needs}
-use Rattle.layout.proofs.segment_in.Statement.{statement}
-use Rattle.layout.proofs.segment_in.Tie as tie
+use Rattle.blocks.proofs.segment_in.Statement.{statement}
+use Rattle.blocks.proofs.segment_in.Tie as tie
 
 returns : tie.Need-returns
 returns c =
     let y = c .before .before .before .before .before .before .before in
     let a = y .before .before .before .before .before .args in
-    rw (c .low-byte .ensures, c .before .before .high-byte .ensures, c .before .before .before .before .pointer2 .ensures, y .pointer .ensures)
+    rw (c .low-byte .ensures, c .before .before .high-byte .ensures, c .before .before .before .before .pointer-of2 .ensures, y .pointer-of .ensures)
     (sym (segment-at (a .linear) (5 * a .i) (a .words .now)))
 
 returns-2 : tie.Need-returns-2

@@ -1,0 +1,19 @@
+-- What the functions of this crate give, as what the rules give: no rules of their own.
+use Prim.Native.Nat.{ℕ, _+_, _/_, _%_}
+use mathlib.Core.Bool.{Bool, true, false, _&&_}
+use mathlib.Core.List.{List}
+use lib.ListN.{length}
+use lib.Dec.{leb}
+use Rattle.memory.specs.declared.WordsRead.{WordsRead}
+use Rattle.memory.specs.declared.WordsRead.the-variants.{Whole, Refused}
+use Rattle.memory.specs.Reading.{Outcome, given, refused}
+
+-- do the k words from a on stand one after the other in a memory of len words, with no wrap between them?
+unfoldable pub isRun : Bool → ℕ → ℕ → ℕ → Bool
+isRun true len a k = leb (a / 2 + k) len && leb (a / 2 + k) 8388608
+isRun false len a k = leb (a / 2 + k) len && leb (a / 2 % 32768 + k) 32768
+
+-- the answer of `read_words`, with the slice it leaves, as an outcome
+abbrev pub wordsRead : WordsRead → List ℕ → Outcome (List ℕ)
+wordsRead Whole ws = given (length ws) ws
+wordsRead (Refused x) ws = refused x
