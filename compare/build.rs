@@ -1,4 +1,4 @@
-//! Links libhost.a to the programs that call it, from the folder HOST_LIB or ../target/staticlib.
+//! Links libthagaduvin.a to the programs that call it, from the folder HOST_LIB or ../target/staticlib.
 
 use std::{env, path::PathBuf};
 
@@ -8,7 +8,7 @@ fn main() {
         |_| PathBuf::from(here).join("../target/staticlib"),
         PathBuf::from,
     );
-    let library = folder.join("libhost.a");
+    let library = folder.join("libthagaduvin.a");
     println!("cargo::rerun-if-env-changed=HOST_LIB");
     println!("cargo::rerun-if-changed={}", library.display());
     for program in ["host", "measure"] {

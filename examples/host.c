@@ -1,7 +1,7 @@
 /* Sheet S of document 01, drawn through the calls of a console; it prints what the draw program prints.
  *
- *     rt staticlib host
- *     cc -O2 -Iinclude examples/host.c target/staticlib/libhost.a -o target/host && target/host */
+ *     rt staticlib thagaduvin
+ *     cc -O2 -Iinclude examples/host.c target/staticlib/libthagaduvin.a -o target/host && target/host */
 #include <stdio.h>
 #include "thagaduvin.h"
 

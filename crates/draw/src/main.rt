@@ -4,7 +4,7 @@ use libc::STDOUT_FILENO;
 use memory::Refusal;
 use row::DrawnRow;
 use row::RowAnswer;
-use row::StartAnswer;
+use start::StartAnswer;
 use script::Script;
 use script::Step;
 use settings::Settings;
@@ -54,7 +54,7 @@ fn read_some(s: Script, mem: &mut [u16]) -> Step {
 
 // A frame: its start, then its rows.
 fn draw(settings: Settings, mem: &[u16]) {
-    match row::start(settings, mem) {
+    match start::start(settings, mem) {
         StartAnswer::Refused(refusal) => print_refusal(refusal),
         StartAnswer::Accepted(started) => {
             let state = started.state;
@@ -90,26 +90,26 @@ fn draw_rows(settings: Settings, mem: &[u16], first: State, start_words: u32) {
 
 fn print_row(settings: Settings, row: DrawnRow, cells: &[u32; 132]) {
     let mut line = [0u8; 1024];
-    let n = script::lines::row_line(row, &mut line);
+    let n = lines::row_line(row, &mut line);
     io::write_all(STDOUT_FILENO, &line[..n]);
-    let m = script::lines::cell_line(settings, cells, &mut line);
+    let m = lines::cell_line(settings, cells, &mut line);
     io::write_all(STDOUT_FILENO, &line[..m]);
 }
 
 fn print_end(rows: u64, words: u64) {
     let mut line = [0u8; 1024];
-    let n = script::lines::end_line(rows, words, &mut line);
+    let n = lines::end_line(rows, words, &mut line);
     io::write_all(STDOUT_FILENO, &line[..n]);
 }
 
 fn print_refusal(refusal: Refusal) {
     let mut line = [0u8; 1024];
-    let n = script::lines::refusal_line(refusal, &mut line);
+    let n = lines::refusal_line(refusal, &mut line);
     io::write_all(STDOUT_FILENO, &line[..n]);
 }
 
 fn print_refused_script(offset: u64) {
     let mut line = [0u8; 1024];
-    let n = script::lines::script_line(offset, &mut line);
+    let n = lines::script_line(offset, &mut line);
     io::write_all(STDOUT_FILENO, &line[..n]);
 }

@@ -4,14 +4,15 @@ use mathlib.Core.Bool.{Bool, true, false}
 use mathlib.Core.List.{List, [], _∷_}
 use Prim.Native.Nat.{ℕ}
 use lib.ListN.{length}
-use Rattle.memory.specs.Reading.{Outcome, given, refused, run}
+use Rattle.memory.specs.declared.Fault.{Fault}
+use Rattle.memory.specs.Reading.{Outcome, given, refused, refusal, run}
 use Rattle.memory.proofs.Related.{Ends, givens, refuseds, run-rel}
 use Rattle.settings.specs.declared.Settings.{Settings}
 use Rattle.state.specs.declared.Fields.{Fields}
 use Rattle.state.specs.declared.State.{State}
 use Rattle.row.specs.declared.RowAnswer.{RowAnswer}
 use Rattle.row.specs.declared.RowAnswer.the-variants.{Accepted, Refused}
-use Rattle.state.specs.State.{stateOf, refusal}
+use Rattle.state.specs.State.{stateOf}
 use Rattle.codes.specs.Attribute.{ignores}
 use Rattle.plan.specs.Plan.{Plan}
 use Rattle.row.specs.Row.{Row, row, answered, rowCall}
@@ -102,14 +103,14 @@ same-row : (σ : Settings) (f : Fields) (a b : List ℕ) (o : Outcome Row)
     → answered σ f a o ≡ onBuffer a (answered σ f b o .answer) (answered σ f b o .buffer)
 unfolding onBuffer
 same-row σ f a b (given n r) = refl
-same-row σ f a b (refused n at) = refl
+same-row σ f a b (refused x) = refl
 
 module _ (σ : Settings) (m : List ℕ) (first : ℕ) where
   -- where the calls stand against the effects of the rows above: these make the state's latch, on its fields; or they refuse as a
   -- row from the state does
   data Stands (f : Fields) (above : Effect) : State → Type 0 where
     goes : {l : ℕ} → apply above first ≡ Latch l → Stands f above (stateOf l f)
-    stays : {s : State} (n a : ℕ) → run m (row σ s) ≡ refused n a → apply above first ≡ Refuses (refusal (s .fields .row) n a)
+    stays : {s : State} (x : Fault) → run m (row σ s) ≡ refused x → apply above first ≡ Refuses (refusal (s .fields .row) x)
         → Stands f above s
 
   -- the call is the row drawn alone
@@ -132,7 +133,7 @@ module _ (σ : Settings) (m : List ℕ) (first : ℕ) where
         → FieldsMade (effectCall σ m f .next) (answered σ f b o .answer) → Next (stateOf l f) o
     unfolding stateAfter fieldsAfter
     go-on l (given n r) e h k = rw k (goes h)
-    go-on l (refused n a) e h k = stays n a e h
+    go-on l (refused x) e h k = stays x e h
 
     tail : {s : State} → Stands f above s → Next s (run m (row σ s))
     unfolding stateAfter

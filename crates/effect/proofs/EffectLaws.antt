@@ -4,6 +4,7 @@ use mathlib.Core.Bool.{Bool, true, false}
 use mathlib.Core.List.{List}
 use Prim.Native.Nat.{ℕ}
 use Rattle.memory.specs.Word.{if_then_else_}
+use Rattle.memory.specs.declared.Fault.{Fault}
 use Rattle.memory.specs.Reading.{Reading, done, _>>=_, Outcome, given, refused, runFrom, run}
 use Rattle.memory.proofs.Laws.{bind-given, bind-refused, run-done}
 use Rattle.memory.proofs.ReadBounds.{if-cases}
@@ -29,7 +30,7 @@ use Rattle.effect.specs.declared.NextFields.the-variants.{Reached}
 use Rattle.effect.specs.Effect.{partOf, nextOf, latchWith, outcomeFor, effectCall, sameParts, partDrawn, nextDrawn}
 
 module _ (σ : Settings) (m : List ℕ) (f : Fields) where
-  pub plan-refused : {n a : ℕ} → refused n a ≡ run m (plan σ f) → (ignore : Bool) → refused n a ≡ outcomeFor σ m f ignore
+  pub plan-refused : {x : Fault} → refused x ≡ run m (plan σ f) → (ignore : Bool) → refused x ≡ outcomeFor σ m f ignore
   unfolding outcomeFor row
   plan-refused e ignore = sym (bind-refused 0 m (plan σ f) _ (sym e))
 
@@ -59,7 +60,7 @@ module _ (σ : Settings) (m : List ℕ) (f : Fields) where
         out (given i d) e =
             rw (bind-given n m drawn (λ d. done (drawnBy p d)) e ∙ run-done i m (drawnBy p d))
             (if-cases (λ (r : Followed). Ends r (given i (drawnBy p d))) (d .pen .latched) (λ t. (rw t, λ x. refl)) (λ t. (rw t, λ x. refl)))
-        out (refused i a) e = tt
+        out (refused x) e = tt
 
     -- the effect of a row whose latch was followed
     same : (part : Part) → ((ignore : Bool) → Accepts part (outcomeFor σ m f ignore)) → sameParts part (p .next) ≡ effectCall σ m f
@@ -77,7 +78,7 @@ module _ (σ : Settings) (m : List ℕ) (s : State) {n : ℕ} {p : Plan} (e : gi
   pub cells-row : (c : CellsDrawn) (cs : List ℕ)
       → finished c cs ≡ finish (runFrom n m (rowCells σ (s .fields .fill) (p .overlay) (p .segments) (blank (s .latch))))
       → (partDrawn (s .fields) c ≡ partOf (s .fields) (run m (row σ s))) × ((x : NextFields) → nextDrawn (p .next) c x ≡ nextOf (run m (row σ s)) x)
-  cells-row (Cells.Refused i a) cs h = rw (← planned-refused σ m s e (finish-refused _ h)) (refl, λ x. refl)
+  cells-row (Cells.Refused x) cs h = rw (← planned-refused σ m s e (finish-refused _ h)) (refl, λ x. refl)
   cells-row (Cells.Accepted l b i) cs h =
       let g = finish-given _ h in
       rw (← planned-drawn σ m s e (g .is)) (

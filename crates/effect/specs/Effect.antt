@@ -3,10 +3,10 @@ use Prim.Native.Nat.{ℕ}
 use mathlib.Core.Bool.{Bool, true, false}
 use mathlib.Core.List.{List}
 use Rattle.memory.specs.Word.{if_then_else_}
-use Rattle.memory.specs.Reading.{Outcome, given, refused, run}
+use Rattle.memory.specs.Reading.{Outcome, given, refused, refusal, run}
 use Rattle.settings.specs.declared.Settings.{Settings}
 use Rattle.state.specs.declared.Fields.{Fields}
-use Rattle.state.specs.State.{stateOf, refusal}
+use Rattle.state.specs.State.{stateOf}
 use Rattle.row.specs.Row.{Row, row}
 use Rattle.cells.specs.declared.CellsDrawn.{CellsDrawn}
 use Rattle.cells.specs.declared.CellsDrawn.the-variants as Cells
@@ -18,13 +18,13 @@ use Rattle.effect.specs.declared.EffectAnswer.{EffectAnswer}
 
 -- "A part is the refusal that a row gives from such a latch; without one, the last word that became the latch; without one, keep."
 abbrev pub partOf : Fields → Outcome Row → Part
-partOf f (refused n a) = Refuse (refusal (f .row) n a)
+partOf f (refused x) = Refuse (refusal (f .row) x)
 partOf f (given n r) = if r .drawing .pen .latched then Set (r .drawing .pen .latch) else Keep
 
 -- "unless both parts refuse, comes with the next state's other fields": those of the first outcome that is no refusal
 abbrev pub nextOf : Outcome Row → NextFields → NextFields
 nextOf (given n r) otherwise = Reached (r .next)
-nextOf (refused n a) otherwise = otherwise
+nextOf (refused x) otherwise = otherwise
 
 -- a latch with ignore clear, and one with it set
 abbrev pub latchWith : Bool → ℕ
@@ -52,12 +52,12 @@ sameParts part next = record { effect = record { clear = part; set = part }; nex
 
 -- the part and the next fields that the cells of a planned row tell, and the answer
 abbrev pub partDrawn : Fields → CellsDrawn → Part
-partDrawn f (Cells.Refused n a) = Refuse (refusal (f .row) n a)
+partDrawn f (Cells.Refused x) = Refuse (refusal (f .row) x)
 partDrawn f (Cells.Accepted latch latched n) = if latched then Set latch else Keep
 
 abbrev pub nextDrawn : Fields → CellsDrawn → NextFields → NextFields
 nextDrawn reached (Cells.Accepted latch latched n) otherwise = Reached reached
-nextDrawn reached (Cells.Refused n a) otherwise = otherwise
+nextDrawn reached (Cells.Refused x) otherwise = otherwise
 
 abbrev pub effectDrawn : Fields → Fields → CellsDrawn → CellsDrawn → EffectAnswer
 effectDrawn f reached clear set = record {

@@ -85,8 +85,8 @@ pub fn row_effect(settings: Settings, mem: &[u16], fields: Fields) -> EffectAnsw
     let mut back = [0u16; 75];
     let mut window = [0u16; 75];
     match plan::plan_row(mem, settings, fields, &mut back, &mut window) {
-        PlanAnswer::Refused { number, address } => {
-            let refused = CellsDrawn::Refused { number, address };
+        PlanAnswer::Refused(fault) => {
+            let refused = CellsDrawn::Refused(fault);
             effect_of(fields, fields, refused, refused)
         }
         PlanAnswer::Planned(p) => {
@@ -182,11 +182,7 @@ fn part_of(fields: Fields, d: CellsDrawn) -> Part
     ensures { λ r. ⌜ r ≡ partDrawn fields d ⌝ }
 {
     match d {
-        CellsDrawn::Refused { number, address } => Part::Refuse(Refusal {
-            number,
-            row: fields.row,
-            address,
-        }),
+        CellsDrawn::Refused(fault) => Part::Refuse(memory::refusal_of(fields.row, fault)),
         CellsDrawn::Accepted {
             latch,
             latched,
@@ -206,10 +202,7 @@ fn next_of(reached: Fields, d: CellsDrawn, otherwise: NextFields) -> NextFields
     ensures { λ r. ⌜ r ≡ nextDrawn reached d otherwise ⌝ }
 {
     match d {
-        CellsDrawn::Refused {
-            number: _,
-            address: _,
-        } => otherwise,
+        CellsDrawn::Refused(_) => otherwise,
         CellsDrawn::Accepted {
             latch: _,
             latched: _,

@@ -17,7 +17,7 @@ use Rattle.memory.proofs.RunLaws.{ahead-next, run-fetch}
 use Rattle.settings.specs.declared.Settings.{Settings}
 use Rattle.blocks.specs.declared.FillMode.{FillMode}
 use Rattle.blocks.specs.declared.Segment.{Segment}
-use Rattle.blocks.specs.RowBlock.{null}
+use Rattle.memory.specs.Address.{null}
 use Rattle.layout.specs.Layout.{width, Overlay, none, over}
 use Rattle.codes.specs.declared.Source.{Source}
 use Rattle.codes.specs.declared.Source.the-variants.{Background, Window}
@@ -193,7 +193,7 @@ module _ (m : List ℕ) (σ : Settings) (fill : FillMode) (no : fill .flag ≡ f
   segment-tells source g n d =
       filled-tells end n _
       (if-cases (λ (f : Followed). Tells b latch f drawn)
-      (isRun (σ .linear) (length m) (g .codes) size && isRun (σ .linear) (length m) (g .attributes) (taken σ m g))
+      (isRun (σ .linear) (length m) (g .codes .address) size && isRun (σ .linear) (length m) (g .attributes .address) (taken σ m g))
       (λ e. let r = both _ _ e in by (null (g .attributes)) refl (r .0) (r .1)) (λ _. unclear))
     where
       b : Bool
@@ -209,14 +209,14 @@ module _ (m : List ℕ) (σ : Settings) (fill : FillMode) (no : fill .flag ≡ f
       size = (codeCount g + 1) / 2
 
       count : ℕ
-      count = invoking (σ .flag) m (g .codes / 2) (codeCount g)
+      count = invoking (σ .flag) m (g .codes .address / 2) (codeCount g)
 
       drawn : Outcome Drawing
       drawn = runFrom n m (codes σ source end (codeCount g) (g .codes) (withList (listAt (g .attributes)) d))
 
-      by : (t : Bool) → null (g .attributes) ≡ t → isRun (σ .linear) (length m) (g .codes) size ≡ true
-          → isRun (σ .linear) (length m) (g .attributes) (if t then 0 else count) ≡ true
-          → Tells b latch (lastLatched m (g .attributes / 2) (if t then 0 else count)) drawn
+      by : (t : Bool) → null (g .attributes) ≡ t → isRun (σ .linear) (length m) (g .codes .address) size ≡ true
+          → isRun (σ .linear) (length m) (g .attributes .address) (if t then 0 else count) ≡ true
+          → Tells b latch (lastLatched m (g .attributes .address / 2) (if t then 0 else count)) drawn
       by true e r s =
           tells-given b latch (λ x y u h. h .0)
           (codes-run m σ source end (λ _. Of (Plain m σ source end b latch)) count (λ n i code d _ h. plain-step m σ source end b latch n code d h) (g .codes) size r (codeCount g) n _ refl (le-refl count) ((refl, refl), rw e))

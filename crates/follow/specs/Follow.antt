@@ -7,11 +7,11 @@ use mathlib.Core.List.{List, [], _∷_}
 use lib.ListN.{length, getD}
 use Rattle.memory.specs.Word.{if_then_else_, high, low}
 use Rattle.memory.specs.Reading.{Outcome, given, refused, runFrom}
-use Rattle.memory.specs.Address.{isRun}
+use Rattle.memory.specs.Answers.{isRun}
 use Rattle.settings.specs.declared.Settings.{Settings}
 use Rattle.blocks.specs.declared.FillMode.{FillMode}
 use Rattle.blocks.specs.declared.Segment.{Segment}
-use Rattle.blocks.specs.RowBlock.{null}
+use Rattle.memory.specs.Address.{null}
 use Rattle.layout.specs.declared.Side.the-variants.{Before, After}
 use Rattle.layout.specs.Layout.{Overlay, none, over, segmentsOn}
 use Rattle.codes.specs.Attribute.{invokes, latches}
@@ -47,13 +47,13 @@ lastLatched m at (suc k) = if latches (getD m (at + k) 0) then Latched (getD m (
 module _ (σ : Settings) (m : List ℕ) where
   -- "A code invokes an attribute when .. its segment's attribute pointer is not null"
   unfoldable pub taken : Segment → ℕ
-  taken g = if null (g .attributes) then 0 else invoking (σ .flag) m (g .codes / 2) (codeCount g)
+  taken g = if null (g .attributes) then 0 else invoking (σ .flag) m (g .codes .address / 2) (codeCount g)
 
   -- unclear unless the words of its codes, and those they take, each stand one after the other in memory
   unfoldable pub overSegment : Segment → Followed
   overSegment g =
-      if isRun (σ .linear) (length m) (g .codes) ((codeCount g + 1) / 2) && isRun (σ .linear) (length m) (g .attributes) (taken g)
-      then lastLatched m (g .attributes / 2) (taken g)
+      if isRun (σ .linear) (length m) (g .codes .address) ((codeCount g + 1) / 2) && isRun (σ .linear) (length m) (g .attributes .address) (taken g)
+      then lastLatched m (g .attributes .address / 2) (taken g)
       else Unclear
 
   unfoldable pub overSegments : List Segment → Followed
@@ -74,7 +74,7 @@ module _ (σ : Settings) (m : List ℕ) where
 -- what a drawing has made of the latch in the end; a refused one says nothing
 abbrev pub ending : Outcome Drawing → Followed
 ending (given n d) = if d .pen .latched then Latched (d .pen .latch) else Kept
-ending (refused n a) = Unclear
+ending (refused x) = Unclear
 
 -- what is followed, or the other where that is unclear
 abbrev pub orElse : Followed → Followed → Followed

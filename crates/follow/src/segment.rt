@@ -14,12 +14,12 @@ pub(crate) fn follow_segment(mem: &[u16], settings: Settings, g: Segment) -> Fol
     ensures { λ r. ⌜ r ≡ overSegment settings (now (mem .entry)) g ⌝ }
 {
     let n = cells::code_count(g) as usize;
-    if !memory::is_run(mem, settings.linear, g.codes, (n + 1) / 2) {
+    if !memory::is_run(mem, settings.linear, g.codes.address, (n + 1) / 2) {
         return Followed::Unclear;
     }
     let k = words_taken(mem, settings, g);
-    if memory::is_run(mem, settings.linear, g.attributes, k) {
-        last_latched(mem, (g.attributes / 2) as usize, k)
+    if memory::is_run(mem, settings.linear, g.attributes.address, k) {
+        last_latched(mem, (g.attributes.address / 2) as usize, k)
     } else {
         Followed::Unclear
     }
@@ -27,14 +27,14 @@ pub(crate) fn follow_segment(mem: &[u16], settings: Settings, g: Segment) -> Fol
 
 // How many words of its list the codes of a segment take.
 fn words_taken(mem: &[u16], settings: Settings, g: Segment) -> usize
-    requires { ⌜ g .codes / 2 + (codeCount g + 1) / 2 ≤ length (now mem) ⌝ }
+    requires { ⌜ g .codes .address / 2 + (codeCount g + 1) / 2 ≤ length (now mem) ⌝ }
     ensures { λ r. ⌜ r ≡ taken settings (now (mem .entry)) g ⌝ }
 {
-    if g.attributes == 0 {
+    if g.attributes.address == 0 {
         0
     } else {
         let n = cells::code_count(g) as usize;
-        count_invoking(mem, settings.flag, (g.codes / 2) as usize, n)
+        count_invoking(mem, settings.flag, (g.codes.address / 2) as usize, n)
     }
 }
 

@@ -21,7 +21,7 @@ pub record Overlaid : Type 0 where
 abbrev pub withRows : Pointer → Window → Window
 withRows rows w = record { block = w .block; rows = rows }
 
--- "window row block (7), 9, 11"
+-- "window row block (7), 9, 11". Refusal 9: "V > L, code pointer not null"; 11: "window widths sum above the window"
 unfoldable pub windowRow : Settings → Window → Reading Overlaid
 windowRow σ w = do
   b ← windowRowAt (σ .linear) (w .rows)

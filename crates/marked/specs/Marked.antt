@@ -1,4 +1,5 @@
--- Document 01, "Marked examples": P1 to P12 and sheet S, with "Misreadings to shut out", as one computed statement.
+-- Document 01, "Marked examples": P1 to P12 and sheet S, with "Misreadings to shut out" and rows of states that no start gives,
+-- as one computed statement.
 use Prim.Native.Nat.{ℕ, _+_, _*_, _/_, _%_, _^_}
 use mathlib.Core.Path.{_≡_, refl}
 use mathlib.Core.Bool.{Bool, true, false, _&&_, not}
@@ -7,13 +8,13 @@ use lib.ListN.{replicate, take, drop}
 use lib.Dec.{eqb}
 use lib.Count.{ones, onesIn}
 use Rattle.memory.specs.Reading.{_>>=_, each, Outcome, given, refused, runFrom, run}
-use Rattle.memory.specs.Address.{pointer, nextWord, ahead, words}
+use Rattle.memory.specs.Address.{to, pointer, nextWord, ahead, words}
 use Rattle.settings.specs.declared.Interlace.{Interlace}
 use Rattle.settings.specs.declared.Interlace.the-variants.{Progressive, RepeatField, Video}
 use Rattle.settings.specs.declared.Settings.{Settings}
 use Rattle.settings.specs.declared.SheetAnswer.{SheetAnswer}
 use Rattle.settings.specs.declared.SheetAnswer.the-variants as Sheet
-use Rattle.settings.specs.Good.{inRange, inOrder, fitsFields, fitsMode, good}
+use Rattle.settings.specs.Good.{inRange, inOrder, fitsFields, fitsMode, good, checkSettings}
 use Rattle.settings.specs.Sheet.{sheetOf, sheetCall}
 use Rattle.settings.specs.Timing.{clocks, halfLines, timing, linesIn, linesForRows, halved, invokingCodes}
 use Rattle.blocks.specs.declared.WindowInHand.{WindowInHand}
@@ -23,19 +24,19 @@ use Rattle.blocks.specs.RowBlock.{segmentOf, segmentsOf, restOfBlock, blockAt, 
 use Rattle.blocks.specs.Window as W
 use Rattle.state.specs.declared.Fields.{Fields}
 use Rattle.state.specs.declared.State.{State}
-use Rattle.row.specs.declared.StartAnswer.{StartAnswer}
-use Rattle.row.specs.declared.StartAnswer.the-variants as Start
+use Rattle.start.specs.declared.StartAnswer.{StartAnswer}
+use Rattle.start.specs.declared.StartAnswer.the-variants as Start
 use Rattle.row.specs.declared.RowAnswer.{RowAnswer}
 use Rattle.row.specs.declared.RowAnswer.the-variants as Answer
 use Rattle.state.specs.State as S
 use Rattle.codes.specs.Attribute.{invokes, sourceNumber, cell}
 use Rattle.layout.specs.Layout.{width, total, allFit, boundary, edgesFit, covered, onSide, segmentsOn}
 use Rattle.layout.specs.Overlay.{windowRow, overlaid}
-use Rattle.plan.specs.Plan.{nextFields, backgroundRow, plan}
+use Rattle.plan.specs.Plan.{nextFields, backgroundBlock, backgroundRow, plan}
 use Rattle.codes.specs.Codes.{taking, put, character, examine, wordCodes, codes}
 use Rattle.cells.specs.Cells.{filled, fillByWord, fillTo, segment, segmentsTo, rowCells}
 use Rattle.row.specs.Row.{Called, row, withCursor, rowCall}
-use Rattle.row.specs.Start.{firstFields, windowStart, startFrom, startCall}
+use Rattle.start.specs.Start.{firstFields, windowStart, startFrom, startCall}
 use Rattle.effect.specs.declared.Part.{Part}
 use Rattle.effect.specs.declared.Part.the-variants.{Keep, Set, Refuse}
 use Rattle.effect.specs.Effect.{outcomeFor, effectCall}
@@ -104,17 +105,20 @@ memoryS =
     ++ (0 ∷ 0x30 ∷ 1 ∷ 0 ∷ 0x60 ∷ 0 ∷ 0x70 ∷ 0x403 ∷ []) ++ replicate 24 0
     ++ (0x4180 ∷ 0x4281 ∷ []) ++ replicate 6 0 ++ (0x2000 ∷ 0x8002 ∷ []) ++ replicate 6 0
 
--- a state with 8 lines left, no fill flag, and the next row block at 20
-at : ℕ → WindowInHand → State
-at row w = S.stateOf 0 (record {
+-- a state with these lines left, no fill flag, and the next row block at 20
+stateAt : ℕ → ℕ → ℕ → ℕ → WindowInHand → State
+stateAt latch attributes left row w = S.stateOf latch (record {
   row = row;
-  left = 8;
+  left = left;
   cursor = record { x = 0; y = 0 };
   fill = record { code = 0x20; flag = false };
-  format = record { lines = 8; attributes = 0; curs = 0; cure = 31 };
-  next = 0x20;
+  format = record { lines = 8; attributes = attributes; curs = 0; cure = 31 };
+  next = to 0x20;
   window = w;
 })
+
+at : ℕ → WindowInHand → State
+at row w = stateAt 0 0 8 row w
 
 stateOfStart : StartAnswer → State
 stateOfStart (Start.Accepted r) = r .state
@@ -147,6 +151,10 @@ row0 = firstRow sheetS memoryS
 
 row1 : Called
 row1 = rowCall sheetS memoryS (stateAfter (row0 .answer)) buffer
+
+-- a row of S from a state that no start gives: latch 0002, row attributes 3FF
+oddRow : ℕ → ℕ → WindowInHand → List ℕ → Called
+oddRow left row w cells = rowCall sheetS memoryS (stateAt 2 0x3FF left row w) cells
 
 padded : ℕ → List ℕ → List ℕ
 padded n l = take n (l ++ replicate n 0)
@@ -201,12 +209,17 @@ twelve = page 0 (0 ∷ 0 ∷ 0 ∷ 0 ∷ 0x303 ∷ 5 ∷ []) [] []
 
 -- a window on the rows n..n, columns 0 to right, without segments, whose next block is at `link`
 windowOn : ℕ → ℕ → ℕ → WindowInHand
-windowOn n right link = Present (record { top = n; bottom = n; left = 0; right = right; rows = 0; link = link })
+windowOn n right link =
+    Present (record { block = record { top = n; bottom = n; left = 0; right = right; link = to link }; rows = to 0 })
 
 inHand : Outcome WindowInHand → List ℕ
 inHand (given n Absent) = []
-inHand (given n (Present w)) = w .top ∷ w .bottom ∷ w .left ∷ w .right ∷ []
-inHand (refused n a) = n ∷ []
+inHand (given n (Present w)) = w .block .top ∷ w .block .bottom ∷ w .block .left ∷ w .block .right ∷ []
+inHand (refused x) = x .number ∷ []
+
+-- the lines left after a row, and the window in hand
+nextShown : Called → List ℕ
+nextShown c = stateAfter (c .answer) .fields .left ∷ inHand (given 0 (stateAfter (c .answer) .fields .window))
 
 -- ---- the statement ----
 pub tests : List Bool
@@ -218,7 +231,7 @@ tests =
     -- P3, and the wrap at FFFFFE
     ∷ eqb (nextWord true 0xFFFE) 0x10000 ∷ eqb (nextWord false 0xFFFE) 0 ∷ eqb (nextWord true 0xFFFFFE) 0
     -- P4
-    ∷ eqb (pointer false 0x0123 0) 0x10000 ∷ eqb (pointer true 0x0123 0) 0x230000
+    ∷ eqb (pointer false 0x0123 0 .address) 0x10000 ∷ eqb (pointer true 0x0123 0 .address) 0x230000
     -- the start of S
     ∷ eqb (wordsOfStart (startCall sheetS memoryS)) 7
     -- P5
@@ -240,7 +253,7 @@ tests =
     ∷ same (shown (firstRow plain (two 32))) (0 ∷ 8 ∷ 0 ∷ 0 ∷ 31 ∷ 13 ∷ replicate 132 0x20)
     ∷ same (shown (firstRow plain (two 33))) (10 ∷ 0 ∷ 0 ∷ [])
     -- P12
-    ∷ same (inHand (run twelve (W.firstWindow true 0x20))) (3 ∷ 3 ∷ 0 ∷ 5 ∷ [])
+    ∷ same (inHand (run twelve (W.firstWindow true (to 0x20)))) (3 ∷ 3 ∷ 0 ∷ 5 ∷ [])
     ∷ same (shown (rowCall plain twelve (at 4 (windowOn 3 5 0x20)) buffer)) (8 ∷ 4 ∷ 0 ∷ [])
     -- the codes that invoke: 128 of S's, 32 of the mask E0, all 256 of the mask 0
     ∷ eqb (invokingCodes 0x8080) 128 ∷ eqb (invokingCodes 0xE000) 32 ∷ eqb (invokingCodes 0x00FF) 256
@@ -252,8 +265,17 @@ tests =
     ∷ same (shown (rowCall plain (page 0x20 (one 0x202) (0x8041 ∷ []) (0x8004 ∷ [])) (at 0 (windowOn 0 1 0)) buffer)) (0 ∷ 8 ∷ 0 ∷ 0 ∷ 31 ∷ 8 ∷ replicate 132 0x20)
     -- misreading: a row effect is taken from ignore clear only. S's row 0 sets 8002 from both; P10's parts differ (above)
     ∷ same (clearPart sheetS memoryS) (0x8002 ∷ []) ∷ same (setPart sheetS memoryS) (0x8002 ∷ [])
+    -- a window that passed long ago, whose next block is null: the row has no window, and none is left
+    ∷ same (shown (oddRow 8 200 (windowOn 2 3 0) buffer)) (200 ∷ 8 ∷ 0x3FF ∷ 0 ∷ 31 ∷ 12 ∷ 0x100241 ∷ 0x100242 ∷ 0x100281 ∷ replicate 129 0x220)
+    ∷ same (nextShown (oddRow 8 200 (windowOn 2 3 0) buffer)) (0 ∷ [])
+    -- the last line, in the last row that a state can have; one row further, row and lines left sum to 4096
+    ∷ same (shown (oddRow 1 4094 Absent buffer)) (4094 ∷ 1 ∷ 0x3FF ∷ 0 ∷ 31 ∷ 12 ∷ 0x100241 ∷ 0x100242 ∷ 0x100281 ∷ replicate 129 0x220)
+    ∷ same (nextShown (oddRow 1 4094 Absent buffer)) (0 ∷ [])
+    ∷ same (shown (oddRow 1 4095 Absent buffer)) (3 ∷ 4095 ∷ 0 ∷ [])
+    -- a row buffer of 131 cells
+    ∷ same (shown (oddRow 8 0 Absent (replicate 131 0))) (1 ∷ 0 ∷ 0 ∷ [])
     ∷ []
 
 pub marked : every tests ≡ true
-unfolding same every shownAs shown cellsFrom partShown times settings sheetS memoryS at stateOfStart wordsOfStart stateAfter buffer firstRow clearPart setPart row0 row1 padded page one two plain video nine ten twelve windowOn inHand tests _>>=_ each runFrom pointer nextWord ahead words good timing linesForRows clocks halved invokingCodes sheetOf sheetCall ones onesIn mainBlock mainBlockAt segmentOf segmentsOf restOfBlock blockAt rowBlockAt windowRowAt formatOf redefined W.windowOf W.windowAt W.firstWindow W.dueWindow S.windowInRange S.inRange invokes sourceNumber cell width total allFit boundary edgesFit covered onSide segmentsOn windowRow overlaid nextFields backgroundRow plan taking put character examine wordCodes codes filled fillByWord fillTo segment segmentsTo rowCells row withCursor rowCall firstFields windowStart startFrom startCall outcomeFor effectCall
+unfolding same every shownAs shown cellsFrom partShown times settings sheetS memoryS stateAt at stateOfStart wordsOfStart stateAfter buffer firstRow clearPart setPart row0 row1 oddRow padded page one two plain video nine ten twelve windowOn inHand nextShown tests _>>=_ each runFrom pointer nextWord ahead words good checkSettings timing linesForRows clocks halved invokingCodes sheetOf sheetCall ones onesIn mainBlock mainBlockAt segmentOf segmentsOf restOfBlock blockAt rowBlockAt windowRowAt formatOf redefined W.windowOf W.windowAt W.firstWindow W.dueWindow S.windowInRange S.inRange invokes sourceNumber cell width total allFit boundary edgesFit covered onSide segmentsOn windowRow overlaid nextFields backgroundBlock backgroundRow plan taking put character examine wordCodes codes filled fillByWord fillTo segment segmentsTo rowCells row withCursor rowCall firstFields windowStart startFrom startCall outcomeFor effectCall
 marked = refl

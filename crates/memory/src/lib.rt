@@ -5,7 +5,7 @@ ghost use lib.ListN.{length};
 ghost use lib.Dec.{leb};
 ghost use Rattle.memory.specs.Word.{bit, high, low};
 ghost use Rattle.memory.specs.Reading.{fetch, fault, missing, refusal, run};
-ghost use Rattle.memory.specs.Address.{pointer, null, isAddress, nextWord, ahead, onward, further, words};
+ghost use Rattle.memory.specs.Address.{pointer, isAddress, nextWord, ahead, onward, further, words};
 ghost use Rattle.memory.specs.Answers.{isRun, wordsRead};
 
 // A pointer in use: the address of the word that is due; a null pointer has 0.
@@ -107,13 +107,6 @@ pub fn pointer_of(linear: bool, first: u16, second: u16) -> Pointer
             address: (first as u32 / 256 % 128 * 65536 + second as u32) / 2 * 2,
         }
     }
-}
-
-// Does the pointer point at nothing?
-pub fn is_null(p: Pointer) -> bool
-    ensures { λ r. ⌜ r ≡ null p ⌝ }
-{
-    p.address == 0
 }
 
 // Is the number an even address of 24 bits?

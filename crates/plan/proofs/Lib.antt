@@ -1,2 +1,2 @@
 pub mod PlanBounds
-pub mod PlanLaws
+mod PlanLaws

@@ -70,7 +70,8 @@ planned f g o = record {
   next = nextFields f (g .format) (g .block .link) (o .window);
 }
 
--- "a due window (7, 8); the whole row block, then its redefinition (7), 9, 10; window row block (7), 9, 11; 12"
+-- "a due window (7, 8); the whole row block, then its redefinition (7), 9, 10; window row block (7), 9, 11; 12". Refusal 12: "window
+-- edge not on a boundary"
 abbrev pub fromBlocks : Settings → Fields → Reading Plan
 fromBlocks σ f = do
   w ← dueWindow (σ .linear) (f .row) (f .window)

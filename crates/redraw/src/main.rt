@@ -5,7 +5,7 @@ use effect::Applied;
 use effect::Effect;
 use effect::NextFields;
 use row::RowAnswer;
-use row::StartAnswer;
+use start::StartAnswer;
 use settings::Settings;
 use state::Fields;
 use state::State;
@@ -41,7 +41,7 @@ fn main() {
 fn redraw_frame(n: u16, mem: &[u16], count: report::Count) -> report::Count {
     report::frame(n);
     let settings = frames::settings(n);
-    match row::start(settings, mem) {
+    match start::start(settings, mem) {
         StartAnswer::Refused(r) => {
             report::refused(r);
             count

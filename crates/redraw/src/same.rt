@@ -89,7 +89,7 @@ fn all_fields(a: Fields, b: Fields) -> bool {
         & (a.cursor.y == b.cursor.y)
         & (a.fill.code == b.fill.code)
         & (a.fill.flag == b.fill.flag)
-        & (a.next == b.next)
+        & (a.next.address == b.next.address)
         & formats(f, g)
         & in_hand(v, w)
 }
@@ -108,10 +108,12 @@ fn in_hand(v: WindowInHand, w: WindowInHand) -> bool {
 }
 
 fn windows(a: Window, b: Window) -> bool {
-    (a.top == b.top)
-        & (a.bottom == b.bottom)
-        & (a.left == b.left)
-        & (a.right == b.right)
-        & (a.rows == b.rows)
-        & (a.link == b.link)
+    let v = a.block;
+    let w = b.block;
+    (v.top == w.top)
+        & (v.bottom == w.bottom)
+        & (v.left == w.left)
+        & (v.right == w.right)
+        & (v.link.address == w.link.address)
+        & (a.rows.address == b.rows.address)
 }

@@ -6,6 +6,7 @@ use mathlib.Core.List.{List, []}
 use Prim.Native.Nat.{ℕ, zero, suc, _+_, _-_}
 use lib.Dec.{ltb}
 use Rattle.memory.specs.Word.{if_then_else_}
+use Rattle.memory.specs.declared.Fault.{Fault}
 use Rattle.memory.specs.Reading.{Reading, done, _>>=_, Outcome, given, refused, runFrom, run}
 use Rattle.memory.specs.Address.{nextWord}
 use Rattle.memory.proofs.Laws.{bind-given, bind-refused}
@@ -146,7 +147,7 @@ module _ (l₁ l₂ : ℕ) (same : ignores l₁ ≡ ignores l₂) (σ : Settings
 -- a row's outcome, against that of its plan: an accepted row has that plan's next fields
 pub data Planned : Outcome Plan → Outcome Row → Type 0 where
   accepts : {i n : ℕ} {p : Plan} {r : Row} → r .next ≡ p .next → Planned (given i p) (given n r)
-  refusing : {o : Outcome Plan} {n at : ℕ} → Planned o (refused n at)
+  refusing : {o : Outcome Plan} {x : Fault} → Planned o (refused x)
 
 pub row-planned : (σ : Settings) (m : List ℕ) (f : Fields) (latch : ℕ) → Planned (run m (plan σ f)) (run m (row σ (stateOf latch f)))
 unfolding row runFrom
@@ -160,8 +161,8 @@ row-planned σ m f latch = by-plan (run m (plan σ f)) refl
 
     by-cells : (i : ℕ) (p : Plan) (o : Outcome Drawing) → runFrom i m (drawn p) ≡ o → Planned (given i p) (runFrom i m (drawn p >>= ended p))
     by-cells i p (given n d) e = rw (bind-given i m (drawn p) (ended p) e) (accepts refl)
-    by-cells i p (refused n at) e = rw (bind-refused i m (drawn p) (ended p) e) refusing
+    by-cells i p (refused x) e = rw (bind-refused i m (drawn p) (ended p) e) refusing
 
     by-plan : (o : Outcome Plan) → run m (plan σ f) ≡ o → Planned o (run m (plan σ f >>= λ p. drawn p >>= ended p))
     by-plan (given i p) e = rw (bind-given 0 m (plan σ f) (λ p. drawn p >>= ended p) e) (by-cells i p (runFrom i m (drawn p)) refl)
-    by-plan (refused n at) e = rw (bind-refused 0 m (plan σ f) (λ p. drawn p >>= ended p) e) refusing
+    by-plan (refused x) e = rw (bind-refused 0 m (plan σ f) (λ p. drawn p >>= ended p) e) refusing

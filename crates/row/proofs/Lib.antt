@@ -1,4 +1,3 @@
 pub mod RowBound
 pub mod Alike
-pub mod StartLaws
 pub mod RowLaws

@@ -9,6 +9,7 @@ use lib.Seq.{set-out}
 use lib.Dec.{ltb, lit≤}
 use borrow.Author.Tests.{ltb-false}
 use Rattle.memory.specs.Word.{if_then_else_}
+use Rattle.memory.specs.declared.Fault.{Fault}
 use Rattle.memory.specs.Reading.{Reading, given, refused, runFrom, run}
 use Rattle.memory.proofs.Laws.{bind-given, bind-refused, run-done}
 use Rattle.memory.proofs.ReadBounds.{Words, reads-given}
@@ -39,7 +40,7 @@ plan-drawable σ m b f {p = p} e =
     let k = reads-given 0 m b (Bounds.plan-reads σ f) (sym e) in (drawable (σ .hidden) f p (k .1), omega (arith, k .0))
 
 -- a row is refused as its plan is
-pub plan-refused : (σ : Settings) (m : List ℕ) (s : State) {i a : ℕ} → refused i a ≡ run m (plan σ (s .fields)) → refused i a ≡ run m (row σ s)
+pub plan-refused : (σ : Settings) (m : List ℕ) (s : State) {x : Fault} → refused x ≡ run m (plan σ (s .fields)) → refused x ≡ run m (row σ s)
 unfolding row
 plan-refused σ m s h = sym (bind-refused 0 m (plan σ (s .fields)) _ (sym h))
 
@@ -48,7 +49,7 @@ module _ (σ : Settings) (m : List ℕ) (s : State) {n : ℕ} {p : Plan} (e : gi
   abbrev cells : Reading Drawing
   cells = rowCells σ (s .fields .fill) (p .overlay) (p .segments) (blank (s .latch))
 
-  pub planned-refused : {i a : ℕ} → refused i a ≡ runFrom n m cells → refused i a ≡ run m (row σ s)
+  pub planned-refused : {x : Fault} → refused x ≡ runFrom n m cells → refused x ≡ run m (row σ s)
   unfolding row
   planned-refused h = sym (bind-given 0 m (plan σ (s .fields)) _ (sym e) ∙ bind-refused n m cells _ (sym h))
 

@@ -6,7 +6,7 @@ use lib.ListN.{length, getD, set}
 use lib.Dec.{eqb}
 use lib.Bits.{bitOr}
 use Rattle.memory.specs.Word.{if_then_else_}
-use Rattle.memory.specs.Reading.{Reading, done, _>>=_, Outcome, given, refused, run}
+use Rattle.memory.specs.Reading.{Reading, done, fault, _>>=_, Outcome, given, refused, refusal, run}
 use Rattle.settings.specs.declared.Settings.{Settings}
 use Rattle.blocks.specs.declared.FillMode.{FillMode}
 use Rattle.blocks.specs.declared.RowFormat.{RowFormat}
@@ -14,7 +14,7 @@ use Rattle.state.specs.declared.Fields.{Fields}
 use Rattle.state.specs.declared.State.{State}
 use Rattle.row.specs.declared.RowAnswer.{RowAnswer}
 use Rattle.row.specs.declared.RowAnswer.the-variants.{Accepted, Refused}
-use Rattle.state.specs.State.{stateOf, refusal}
+use Rattle.state.specs.State.{stateOf}
 use Rattle.plan.specs.Plan.{Plan, plan}
 use Rattle.codes.specs.Codes.{Drawing, blank}
 use Rattle.cells.specs.Cells.{rowCells}
@@ -69,14 +69,14 @@ accepted σ f words r =
 -- "State and buffer stay"
 abbrev pub answered : Settings → Fields → List ℕ → Outcome Row → Called
 answered σ f buffer (given n r) = accepted σ f n r
-answered σ f buffer (refused n a) = called (Refused (refusal (f .row) n a)) buffer
+answered σ f buffer (refused x) = called (Refused (refusal (f .row) x)) buffer
 
 -- Refusal 1: "row buffer not 132 cells"
 unfoldable pub rowCall : Settings → List ℕ → State → List ℕ → Called
 rowCall σ m s buffer =
     if eqb (length buffer) 132
     then answered σ (s .fields) buffer (run m (row σ s))
-    else called (Refused (refusal (s .fields .row) 1 0)) buffer
+    else called (Refused (refusal (s .fields .row) (fault 1))) buffer
 
 -- "a row reads fewer than 12,000"
 abbrev pub FewWords : RowAnswer → Type 0

@@ -1,9 +1,5 @@
-// Starts and rows: a frame's first state, and one row after the other.
-use blocks::MainBlock;
-use blocks::MainRead;
+// The row call: the next row of a frame, into a row buffer.
 use blocks::RowFormat;
-use blocks::WindowInHand;
-use blocks::WindowRead;
 use cells::CellsDrawn;
 use memory::Refusal;
 use plan::PlanAnswer;
@@ -13,23 +9,11 @@ use state::Fields;
 use state::State;
 ghost use mathlib.Core.Path.{_≡_};
 ghost use lib.ListN.{length};
-ghost use Rattle.memory.specs.Reading.{given, runFrom, run};
-ghost use Rattle.state.specs.State.{stateOf, refusal};
+ghost use Rattle.memory.specs.Reading.{given, run};
+ghost use Rattle.state.specs.State.{stateOf};
 ghost use Rattle.plan.specs.Plan.{plan};
 ghost use Rattle.plan.specs.Answers.{planOf};
-ghost use Rattle.row.specs.Start.{firstFields, windowStart, started, startCall};
 ghost use Rattle.row.specs.Row.{row, withCursor, called, answerOf, answered, rowCall, FewWords};
-
-// The answer of an accepted start: the words read, and the first state.
-pub struct Started {
-    pub words: u32,
-    pub state: State,
-}
-
-pub enum StartAnswer {
-    Accepted(Started),
-    Refused(Refusal),
-}
 
 // The answer of an accepted row, but for its cells, which the row buffer has.
 pub struct DrawnRow {
@@ -40,6 +24,7 @@ pub struct DrawnRow {
     pub next: State,
 }
 
+// The answer of a row, or its refusal.
 pub enum RowAnswer {
     Accepted(DrawnRow),
     Refused(Refusal),
@@ -52,32 +37,13 @@ pub fn row(settings: Settings, mem: &[u16], state: State, buffer: &mut [u32]) ->
 {
     let fields = state.fields;
     if buffer.len() != 132 {
-        return RowAnswer::Refused(refusal(fields.row, 1, 0));
+        return RowAnswer::Refused(memory::refusal_of(fields.row, memory::fault_of(1)));
     }
     let mut back = [0u16; 75];
     let mut window = [0u16; 75];
     match plan::plan_row(mem, settings, fields, &mut back, &mut window) {
-        PlanAnswer::Refused { number, address } => {
-            RowAnswer::Refused(refusal(fields.row, number, address))
-        }
+        PlanAnswer::Refused(fault) => RowAnswer::Refused(memory::refusal_of(fields.row, fault)),
         PlanAnswer::Planned(p) => draw_planned(settings, mem, state, p, &back, &window, buffer),
-    }
-}
-
-// The start of a frame: its first state and the words read, or refusal 2, 6, 7 or 8.
-pub fn start(settings: Settings, mem: &[u16]) -> StartAnswer
-    ensures { λ r. ⌜ r ≡ startCall settings (now (mem .entry)) ⌝ }
-{
-    if !settings::is_good(settings) {
-        return StartAnswer::Refused(refusal(0, 2, 0));
-    }
-    let top = memory::pointer(settings.linear, settings.top.first, settings.top.second);
-    if top == 0 {
-        return StartAnswer::Refused(refusal(0, 6, 0));
-    }
-    match blocks::main_block(mem, settings.linear, top) {
-        MainRead::Missing(at) => StartAnswer::Refused(refusal(0, 7, at)),
-        MainRead::Read(main) => start_window(settings, mem, main),
     }
 }
 
@@ -111,9 +77,7 @@ fn draw_planned(
         p.words,
         &mut cells,
     ) {
-        CellsDrawn::Refused { number, address } => {
-            RowAnswer::Refused(refusal(fields.row, number, address))
-        }
+        CellsDrawn::Refused(fault) => RowAnswer::Refused(memory::refusal_of(fields.row, fault)),
         CellsDrawn::Accepted {
             latch,
             latched: _,
@@ -162,59 +126,5 @@ fn copy_cells(from: &[u32], into: &mut [u32])
     while i < 132 {
         into[i] = from[i];
         i += 1;
-    }
-}
-
-// The rest of a start, once its main block is read: the first window.
-fn start_window(settings: Settings, mem: &[u16], main: MainBlock) -> StartAnswer
-    ensures { λ r. ⌜ r ≡ started (runFrom 7 (now (mem .entry)) (windowStart 0 settings main)) ⌝ }
-{
-    let tow = memory::pointer(settings.linear, settings.tow.first, settings.tow.second);
-    match blocks::first_window(mem, settings.linear, tow) {
-        WindowRead::Refused { number, address } => StartAnswer::Refused(refusal(
-            0,
-            number,
-            address,
-        )),
-        WindowRead::Read { window, words } => {
-            let fields = first_fields(settings, main, window);
-            let state = State { latch: 0, fields };
-            StartAnswer::Accepted(Started {
-                words: 7 + words,
-                state,
-            })
-        }
-    }
-}
-
-fn first_fields(settings: Settings, main: MainBlock, window: WindowInHand) -> Fields
-    ensures { λ r. ⌜ r ≡ firstFields settings main window ⌝ }
-{
-    let cursor = main.cursor;
-    let fill = main.fill;
-    let format = RowFormat {
-        lines: main.lines,
-        attributes: 0,
-        curs: 0,
-        cure: 31,
-    };
-    Fields {
-        row: 0,
-        left: settings::lines_for_rows(settings),
-        cursor,
-        fill,
-        format,
-        next: main.rows,
-        window,
-    }
-}
-
-fn refusal(row: u16, number: u8, address: u32) -> Refusal
-    ensures { λ r. ⌜ r ≡ refusal row number address ⌝ }
-{
-    Refusal {
-        number,
-        row,
-        address,
     }
 }

@@ -1,4 +1,3 @@
 pub mod Records
 pub mod Script
-pub mod Lines
 pub mod SheetS

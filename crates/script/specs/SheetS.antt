@@ -1,17 +1,15 @@
--- Document 01, "Script of sheet S", with lines of its output and some scripts that are refused: computed by the definitions.
+-- Document 01, "Script of sheet S", and some scripts that are refused: computed by the definitions.
 use Prim.Native.Nat.{ℕ, _+_, _/_, _%_}
 use mathlib.Core.Path.{_≡_, refl}
 use mathlib.Core.Bool.{false, true}
 use mathlib.Core.List.{List, [], _∷_, _++_}
 use lib.ListN.{take, drop}
-use Rattle.memory.specs.declared.Refusal.{Refusal}
 use Rattle.settings.specs.declared.Interlace.the-variants.{Progressive}
 use Rattle.settings.specs.declared.Settings.{Settings}
 use Rattle.script.specs.declared.Step.{Step}
 use Rattle.script.specs.declared.Step.the-variants.{Draw, Refused}
 use Rattle.script.specs.Records.{switched, registered, accepted, settingsAfter, memoryAfter}
 use Rattle.script.specs.Script.{unset, beginning, begun, taken, ended, stepOf, feeding, scriptCall}
-use Rattle.script.specs.Lines.{text, digits, fewest, moreCells, cellLine, endLine, refusalLine, scriptLine}
 
 -- records
 pub register : ℕ → ℕ → List ℕ
@@ -70,14 +68,3 @@ pub refused-scripts :
     × (outcome (3 ∷ 0x0c ∷ 0 ∷ []) ≡ Refused 0)
 unfolding switched registered accepted settingsAfter memoryAfter unset beginning begun taken ended stepOf feeding
 refused-scripts = (refl, refl, refl, refl, refl, refl, refl, refl)
-
-pub refusal : Refusal
-refusal = record { number = 13; row = 4; address = 0x1abc }
-
-pub lines-s :
-    (cellLine (0x100041 ∷ 0x500042 ∷ 0x100281 ∷ 0x220 ∷ []) ≡ text "100041 500042 100281 000220\n")
-    × (endLine 2 22 ≡ text "end rows 2 words 22\n")
-    × (refusalLine refusal ≡ text "refused 13 row 4 at 001ABC\n")
-    × (scriptLine 0 ≡ text "refused script at 0\n")
-unfolding digits fewest moreCells cellLine endLine refusalLine scriptLine refusal
-lines-s = (refl, refl, refl, refl)

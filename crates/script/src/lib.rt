@@ -1,6 +1,4 @@
-// The script of the draw program: its records, read byte by byte, set settings and memory. `lines` has the output.
-pub mod lines;
-
+// The script of the draw program: its records, read byte by byte, set settings and memory.
 use settings::Interlace;
 use settings::PointerWords;
 use settings::Settings;

@@ -5,7 +5,7 @@ ghost use mathlib.Core.Path.{_≡_};
 ghost use mathlib.Core.List.{List};
 ghost use Prim.Native.Nat.{ℕ, _-_, _*_, _≤_};
 ghost use Rattle.memory.specs.Reading.{runFrom};
-ghost use Rattle.settings.specs.Good.{good, inRange, inOrder, fitsFields, fitsMode, checkSettings, Ordered};
+ghost use Rattle.settings.specs.Good.{good, inRange, shownColumns, inOrder, fitsFields, fitsMode, checkSettings, Ordered};
 ghost use Rattle.settings.specs.Timing.{halfLines, timing, linesForRows, clocks, invokingCodes};
 ghost use Rattle.settings.specs.Sheet.{sheetOf, sheetCall};
 ghost use Rattle.settings.specs.Answers.{settingsChecked};
@@ -122,6 +122,13 @@ pub fn lines_for_rows(settings: Settings) -> u16
     }
 }
 
+// The shown columns, HTD - HSD: 0 where HTD is below.
+pub fn shown_columns(settings: Settings) -> u16
+    ensures { λ r. ⌜ r ≡ shownColumns settings ⌝ }
+{
+    above(settings.hsd, settings.htd)
+}
+
 // How far `high` is above `low`: 0 where it is below.
 fn above(low: u16, high: u16) -> u16
     ensures { λ r. ⌜ r ≡ high - low ⌝ }
@@ -150,7 +157,7 @@ fn in_order(s: Settings) -> bool
         & (s.hsync < s.htc)
         & (s.hsd < s.htd)
         & (s.htd <= s.htc)
-        & (above(s.hsd, s.htd) <= 132)
+        & (shown_columns(s) <= 132)
 }
 
 fn fits_mode(s: Settings) -> bool

@@ -7,7 +7,7 @@ use libc::STDOUT_FILENO;
 use memory::Refusal;
 use row::DrawnRow;
 use row::RowAnswer;
-use row::StartAnswer;
+use start::StartAnswer;
 use script::Step;
 use settings::Settings;
 use state::State;
@@ -146,7 +146,7 @@ fn draw_script(bytes: &[u8], want: &[u8]) -> Place {
 
 // A frame: its start, then its rows.
 fn draw(settings: Settings, mem: &[u16], want: &[u8]) -> Place {
-    match row::start(settings, mem) {
+    match start::start(settings, mem) {
         StartAnswer::Refused(refusal) => with_refusal(beginning(), refusal, want),
         StartAnswer::Accepted(started) => {
             let state = started.state;
@@ -201,27 +201,27 @@ fn with_row(
     want: &[u8],
 ) -> Place {
     let mut line = [0u8; 1024];
-    let n = script::lines::row_line(row, &mut line);
+    let n = lines::row_line(row, &mut line);
     let then = compare(place, &line[..n], want);
-    let m = script::lines::cell_line(settings, cells, &mut line);
+    let m = lines::cell_line(settings, cells, &mut line);
     compare(then, &line[..m], want)
 }
 
 fn with_end(place: Place, rows: u64, words: u64, want: &[u8]) -> Place {
     let mut line = [0u8; 1024];
-    let n = script::lines::end_line(rows, words, &mut line);
+    let n = lines::end_line(rows, words, &mut line);
     compare(place, &line[..n], want)
 }
 
 fn with_refusal(place: Place, refusal: Refusal, want: &[u8]) -> Place {
     let mut line = [0u8; 1024];
-    let n = script::lines::refusal_line(refusal, &mut line);
+    let n = lines::refusal_line(refusal, &mut line);
     compare(place, &line[..n], want)
 }
 
 fn refused_script(offset: u64, want: &[u8]) -> Place {
     let mut line = [0u8; 1024];
-    let n = script::lines::script_line(offset, &mut line);
+    let n = lines::script_line(offset, &mut line);
     compare(beginning(), &line[..n], want)
 }
 

@@ -15,7 +15,7 @@ returns : tie.Need-returns
 unfolding effectCall
 returns c =
     let a = c .before .before .before .before .before .before .before .before .args in
-    let law = plan-refused (a .settings) (a .mem .now) (a .fields) (rw (c .before .before .number .given .1) at (c .before .before .before .before .plan-row .ensures)) in
+    let law = plan-refused (a .settings) (a .mem .now) (a .fields) (rw (c .before .before .fault .given .1) at (c .before .before .before .before .plan-row .ensures)) in
     c .effect-of .ensures ∙ ap₂ (effectOf (a .fields)) (law false) (law true)
 
 returns-2 : tie.Need-returns-2

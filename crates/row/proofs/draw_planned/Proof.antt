@@ -22,8 +22,8 @@ returns : tie.Need-returns
 returns c =
     let a = c .before .before .before .before .before .before .before .before .before .before .before .args in (
       lit< tt,
-      rw (c .refusal .ensures)
-          (ap (answered (a .settings) (a .state .fields) (a .buffer .now)) (planned-refused (a .settings) (a .mem .now) (a .state) (c .before .before .before .before .before .before .before .before .before .before .before .pre .1) (finish-refused _ (rw (c .before .before .number .given .1) at (c .before .before .before .before .before .draw-cells .ensures))))),
+      rw (c .refusal-of .ensures)
+          (ap (answered (a .settings) (a .state .fields) (a .buffer .now)) (planned-refused (a .settings) (a .mem .now) (a .state) (c .before .before .before .before .before .before .before .before .before .before .before .pre .1) (finish-refused _ (rw (c .before .before .fault .given .1) at (c .before .before .before .before .before .draw-cells .ensures))))),
     )
 
 returns-2 : tie.Need-returns-2

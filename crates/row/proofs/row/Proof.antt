@@ -10,7 +10,7 @@ use Rattle.row.proofs.row.Tie as tie
 
 returns : tie.Need-returns
 unfolding rowCall
-returns c = rw (c .refusal .ensures, ne-eqb _ 132 (c .before .if1 .taken)) (lit< tt, refl)
+returns c = rw (c .refusal-of .ensures, c .before .fault-of .ensures, ne-eqb _ 132 (c .before .if1 .taken)) (lit< tt, refl)
 
 draw-planned-requires : tie.Need-draw-planned-requires
 draw-planned-requires c κs = (c .before .before .before .before .before .before .before .before .before .if1 .left, rw (c .before .before .before .before .p .given .1) at (c .before .before .before .before .before .before .plan-row .ensures))
@@ -20,8 +20,8 @@ unfolding rowCall
 returns-2 c =
     let a = c .before .before .before .before .before .before .before .before .before .before .before .args in (
       lit< tt,
-      rw (c .refusal2 .ensures, eq-eqb (length (a .buffer .now)) 132 (c .before .before .before .before .before .before .before .if1 .left))
-          (ap (answered (a .settings) (a .state .fields) (a .buffer .now)) (plan-refused (a .settings) (a .mem .now) (a .state) (rw (c .before .before .number .given .1) at (c .before .before .before .before .plan-row .ensures)))),
+      rw (c .refusal-of2 .ensures, eq-eqb (length (a .buffer .now)) 132 (c .before .before .before .before .before .before .before .if1 .left))
+          (ap (answered (a .settings) (a .state .fields) (a .buffer .now)) (plan-refused (a .settings) (a .mem .now) (a .state) (rw (c .before .before .fault .given .1) at (c .before .before .before .before .plan-row .ensures)))),
     )
 
 returns-3 : tie.Need-returns-3

@@ -1,0 +1,106 @@
+-- Texts that a loop writes: digits from the last one on, zeros in front, bytes one after the other.
+use mathlib.Core.Path.{_≡_, refl, sym, ap, _∙_}
+use mathlib.Core.List.{List, [], _∷_, _++_, append-assoc}
+use Prim.Native.Nat.{ℕ, zero, suc, _+_, _-_, _/_, _%_, _<_, _≤_, min}
+use native.Mathlib.Omega.{arith}
+use native.Mathlib.Nat.{add-assoc, min-zero, zero-min, suc-min-suc}
+use native.Mathlib.Numerals.{add-one}
+use lib.ListN.{length, getD, take, drop, set, length-set, length-drop, length-append, drop-of-length-le}
+use lib.Seq.{drop-cons, drop-set-lt, getD-set-same, getD-drop, drop-drop, take-suc, take-at, take-nil, length-take-le}
+use borrow.Author.Tests.{eq-eqb, ne-eqb}
+use Rattle.memory.proofs.ListLaws.{take-next}
+use Rattle.lines.specs.Lines.{text, digit, digits, hex, fewest, cellLine, moreCells}
+
+-- one more byte after the first at + i
+pub put-more : (out text before : List ℕ) (at i : ℕ) → at + i < length out → i < length text → take (at + i) out ≡ before ++ take i text
+    → take (at + (i + 1)) (set out (at + i) (getD text i 0)) ≡ before ++ take (i + 1) text
+put-more out text before at i h g e =
+    rw (← add-assoc at i 1, take-next out (at + i) (getD text i 0) h, e, append-assoc, add-one i, take-suc text i 0 g)
+
+-- a part in the middle
+pub part-put : (xs ys rest : List ℕ) (at k : ℕ) → at ≤ length xs → length ys ≡ k → take (at + k) (take at xs ++ (ys ++ rest)) ≡ take at xs ++ ys
+part-put xs ys rest at k h e =
+    rw (← append-assoc)
+    (take-at (take at xs ++ ys) rest (at + k) (length-append (take at xs) ys ∙ rw (length-take-le at xs h, e)))
+
+-- one more digit before the others
+digits-last : (base k n : ℕ) (rest : List ℕ) → 0 < k
+    → digits base k n ++ rest ≡ digits base (k - 1) (n / base) ++ (digit (n % base) ∷ rest)
+unfolding digits
+digits-last base zero n rest h = absurd (omega arith)
+digits-last base (suc k) n rest h =
+    let e : suc k - 1 ≡ k = omega arith in
+    rw (append-assoc, e)
+
+drop-set : (l : List ℕ) (i x : ℕ) → i < length l → drop i (set l i x) ≡ x ∷ drop (i + 1) l
+drop-set l i x h =
+    let g : i < length (set l i x) = rw length-set h in
+    drop-cons (set l i x) i 0 g ∙ rw (getD-set-same l i x 0 h, drop-set-lt (suc i) l i x (omega arith), ← add-one i)
+
+pub digits-turn : (base n i : ℕ) (text : List ℕ) → 0 < i → i ≤ length text
+    → digits base i n ++ drop i text ≡ digits base (i - 1) (n / base) ++ drop (i - 1) (set text (i - 1) (digit (n % base)))
+digits-turn base n i text h g =
+    let e : i - 1 + 1 ≡ i = omega arith in
+    digits-last base i n (drop i text) h ∙ rw (drop-set text (i - 1) (digit (n % base)) (omega arith), e)
+
+pub digits-none : (base n i : ℕ) (text : List ℕ) → i ≤ 0 → digits base i n ++ drop i text ≡ text
+unfolding digits
+digits-none base n zero text h = refl
+digits-none base n (suc i) text h = absurd (omega arith)
+
+-- zeros in front of the first digit
+first-kept : (l : List ℕ) → 1 < length l → (getD l 0 0 ≡ 48 → ⊥) → fewest l ≡ l
+unfolding fewest
+first-kept [] h f = refl
+first-kept (c ∷ []) h f = refl
+first-kept (c ∷ d ∷ l) h f = rw (ne-eqb c 48 f)
+
+first-dropped : (l : List ℕ) → 1 < length l → getD l 0 0 ≡ 48 → fewest l ≡ fewest (drop 1 l)
+unfolding fewest
+first-dropped [] h e = refl
+first-dropped (c ∷ []) h e = absurd (omega arith)
+first-dropped (c ∷ d ∷ l) h e = rw (eq-eqb c 48 e)
+
+pub short-kept : (l : List ℕ) → length l ≤ 1 → fewest l ≡ l
+unfolding fewest
+short-kept [] h = refl
+short-kept (c ∷ []) h = refl
+short-kept (c ∷ d ∷ l) h = absurd (omega arith)
+
+module _ (l : List ℕ) (i : ℕ) (h : i + 1 < length l) where
+  more : 1 < length (drop i l)
+  more = rw length-drop (omega arith)
+
+  head : getD (drop i l) 0 0 ≡ getD l i 0
+  head = getD-drop i l 0 0 ∙ ap (λ (j : ℕ). getD l j 0) (omega arith)
+
+  pub digit-kept : (getD l i 0 ≡ 48 → ⊥) → fewest (drop i l) ≡ drop i l
+  digit-kept f = first-kept (drop i l) more (λ e. f (sym head ∙ e))
+
+  pub zero-dropped : getD l i 0 ≡ 48 → fewest (drop i l) ≡ fewest (drop (i + 1) l)
+  zero-dropped e = first-dropped (drop i l) more (head ∙ e) ∙ rw (drop-drop 1 i l)
+
+-- the cells of a line
+pub cells-first : (l : List ℕ) → 0 < length l → cellLine l ≡ hex 6 (getD l 0 0) ++ moreCells (drop 1 l)
+unfolding cellLine
+cells-first [] h = absurd (omega arith)
+cells-first (c ∷ l) h = refl
+
+pub cells-more : (l : List ℕ) (i : ℕ) → i < length l → moreCells (drop i l) ≡ text " " ++ hex 6 (getD l i 0) ++ moreCells (drop (i + 1) l)
+unfolding moreCells
+cells-more l i h = rw (add-one, drop-cons l i 0)
+
+pub cells-end : (l : List ℕ) (i : ℕ) → length l ≤ i → moreCells (drop i l) ≡ text "\n"
+unfolding moreCells
+cells-end l i h = rw (drop-of-length-le l h)
+
+pub no-cells : (l : List ℕ) → length l ≤ 0 → cellLine l ≡ text "\n"
+unfolding cellLine
+no-cells [] h = refl
+no-cells (c ∷ l) h = absurd (omega arith)
+
+-- no more cells are shown than there are
+pub shown-most : (l : List ℕ) (n : ℕ) → take (min n (length l)) l ≡ take n l
+shown-most [] n = rw (take-nil (min n 0)) (sym (take-nil n))
+shown-most (x ∷ l) zero = rw zero-min
+shown-most (x ∷ l) (suc n) = rw (suc-min-suc, shown-most l n)

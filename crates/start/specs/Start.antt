@@ -1,0 +1,68 @@
+-- The start of a frame.
+use Prim.Native.Nat.{ℕ}
+use mathlib.Core.Bool.{Bool, not}
+use mathlib.Core.List.{List}
+use Rattle.memory.specs.declared.Pointer.{Pointer}
+use Rattle.memory.specs.Reading.{Reading, done, _>>=_, _>>_, check, Outcome, given, refused, refusal, run}
+use Rattle.memory.specs.Address.{pointer, null}
+use Rattle.settings.specs.declared.Settings.{Settings}
+use Rattle.settings.specs.declared.PointerWords.{PointerWords}
+use Rattle.settings.specs.Good.{checkSettings}
+use Rattle.settings.specs.Timing.{linesForRows}
+use Rattle.blocks.specs.declared.MainBlock.{MainBlock}
+use Rattle.blocks.specs.declared.WindowInHand.{WindowInHand}
+use Rattle.blocks.specs.Main.{mainBlockAt}
+use Rattle.blocks.specs.Window.{firstWindow}
+use Rattle.state.specs.declared.Fields.{Fields}
+use Rattle.state.specs.declared.State.{State}
+use Rattle.start.specs.declared.StartAnswer.{StartAnswer}
+use Rattle.start.specs.declared.StartAnswer.the-variants.{Accepted, Refused}
+use Rattle.state.specs.State.{stateOf}
+
+-- the pointer that a register holds in two words
+abbrev pub registered : Bool → PointerWords → Pointer
+registered linear w = pointer linear (w .first) (w .second)
+
+-- "A frame starts with row attributes 0, M6's lines, CURS 0, CURE 31."
+unfoldable pub firstFields : Settings → MainBlock → WindowInHand → Fields
+firstFields σ m w = record {
+  row = 0;
+  left = linesForRows σ;
+  cursor = m .cursor;
+  fill = m .fill;
+  format = record { lines = m .lines; attributes = 0; curs = 0; cure = 31 };
+  next = m .rows;
+  window = w;
+}
+
+-- "then 7 and 8 for the first window"
+unfoldable pub windowStart : ℕ → Settings → MainBlock → Reading State
+windowStart latch σ m = do
+  w ← firstWindow (σ .linear) (registered (σ .linear) (σ .tow))
+  done (stateOf latch (firstFields σ m w))
+
+-- ".. 6, 7 for the main block". Refusal 6: "TOP null (start)"
+abbrev pub mainStart : ℕ → Settings → Reading State
+mainStart latch σ = do
+  let top = registered (σ .linear) (σ .top)
+  check 6 (not (null top))
+  m ← mainBlockAt (σ .linear) top
+  windowStart latch σ m
+
+-- "Start: 2, 6, 7 for the main block, then 7 and 8 for the first window."
+unfoldable pub startFrom : ℕ → Settings → Reading State
+startFrom latch σ = do
+  checkSettings σ
+  mainStart latch σ
+
+-- "It is 0 at the start of a frame.", of the latch
+abbrev pub start : Settings → Reading State
+start σ = startFrom 0 σ
+
+-- "a refused start gives no state"; "the row is 0 at the start"
+abbrev pub started : Outcome State → StartAnswer
+started (given n s) = Accepted (record { words = n; state = s })
+started (refused x) = Refused (refusal 0 x)
+
+unfoldable pub startCall : Settings → List ℕ → StartAnswer
+startCall σ m = started (run m (start σ))

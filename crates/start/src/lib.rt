@@ -1,0 +1,91 @@
+// The start of a frame: its first state.
+use blocks::MainBlock;
+use blocks::MainRead;
+use blocks::RowFormat;
+use blocks::WindowInHand;
+use blocks::WindowRead;
+use memory::Refusal;
+use settings::Settings;
+use settings::SettingsCheck;
+use state::Fields;
+use state::State;
+ghost use mathlib.Core.Path.{_≡_};
+ghost use Rattle.memory.specs.Reading.{run, runFrom};
+ghost use Rattle.start.specs.Start.{firstFields, windowStart, mainStart, started, startCall};
+
+// The answer of an accepted start: the words read, and the first state.
+pub struct Started {
+    pub words: u32,
+    pub state: State,
+}
+
+// The first state of a frame, or the refusal of its start, which gives none.
+pub enum StartAnswer {
+    Accepted(Started),
+    Refused(Refusal),
+}
+
+// The start of a frame: its first state and the words read, or refusal 2, 6, 7 or 8.
+pub fn start(settings: Settings, mem: &[u16]) -> StartAnswer
+    ensures { λ r. ⌜ r ≡ startCall settings (now (mem .entry)) ⌝ }
+{
+    match settings::check_settings(settings) {
+        SettingsCheck::Refused(fault) => StartAnswer::Refused(memory::refusal_of(0, fault)),
+        SettingsCheck::Passed => start_main(settings, mem),
+    }
+}
+
+// The rest of a start, once its settings are checked: the main block.
+fn start_main(settings: Settings, mem: &[u16]) -> StartAnswer
+    ensures { λ r. ⌜ r ≡ started (run (now (mem .entry)) (mainStart 0 settings)) ⌝ }
+{
+    let top = memory::pointer_of(settings.linear, settings.top.first, settings.top.second);
+    if top.address == 0 {
+        return StartAnswer::Refused(memory::refusal_of(0, memory::fault_of(6)));
+    }
+    match blocks::main_block(mem, settings.linear, top) {
+        MainRead::Refused(fault) => StartAnswer::Refused(memory::refusal_of(0, fault)),
+        MainRead::Read(main) => start_window(settings, mem, main),
+    }
+}
+
+// The rest of a start, once its main block is read: the first window.
+fn start_window(settings: Settings, mem: &[u16], main: MainBlock) -> StartAnswer
+    ensures { λ r. ⌜ r ≡ started (runFrom 7 (now (mem .entry)) (windowStart 0 settings main)) ⌝ }
+{
+    let tow = memory::pointer_of(settings.linear, settings.tow.first, settings.tow.second);
+    match blocks::first_window(mem, settings.linear, tow) {
+        WindowRead::Refused(fault) => StartAnswer::Refused(memory::refusal_of(0, fault)),
+        WindowRead::Read { window, words } => {
+            let fields = first_fields(settings, main, window);
+            let state = State { latch: 0, fields };
+            StartAnswer::Accepted(Started {
+                words: 7 + words,
+                state,
+            })
+        }
+    }
+}
+
+fn first_fields(settings: Settings, main: MainBlock, window: WindowInHand) -> Fields
+    ensures { λ r. ⌜ r ≡ firstFields settings main window ⌝ }
+{
+    let cursor = main.cursor;
+    let fill = main.fill;
+    let format = RowFormat {
+        lines: main.lines,
+        attributes: 0,
+        curs: 0,
+        cure: 31,
+    };
+    let next = main.rows;
+    Fields {
+        row: 0,
+        left: settings::lines_for_rows(settings),
+        cursor,
+        fill,
+        format,
+        next,
+        window,
+    }
+}

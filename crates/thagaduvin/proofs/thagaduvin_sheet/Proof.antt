@@ -1,0 +1,32 @@
+-- Each test of the code is one of `hostSheet`'s: the answer's length, then whether the settings fit; `sheet` gives the rest.
+use mathlib.Core.Path.{_∙_}
+use borrow.Author.Tests.{eq-eqb, ne-eqb}
+use Rattle.thagaduvin.specs.Calls.{hostSheet}
+use borrow.Author.Needs.{needs}
+use Rattle.thagaduvin.proofs.thagaduvin_sheet.Statement.{statement}
+use Rattle.thagaduvin.proofs.thagaduvin_sheet.Tie as tie
+
+returns : tie.Need-returns
+unfolding hostSheet
+returns c = rw (ne-eqb _ _ (c .if1 .taken))
+
+returns-2 : tie.Need-returns-2
+unfolding hostSheet
+returns-2 c = rw (eq-eqb _ _ (c .before .before .before .before .before .before .before .before .if1 .left), ← c .before .before .before .before .before .before .before .settings-in .ensures, c .before .before .before .before .before .s .given .1) (c .before .before .sheet .ensures)
+
+returns-3 : tie.Need-returns-3
+unfolding hostSheet
+returns-3 c = rw (eq-eqb _ _ (c .before .before .before .if1 .left), ← c .before .before .settings-in .ensures, c .enum-told .given .1)
+
+pub thagaduvin-sheet-spec : {M : Type 1} → statement M
+thagaduvin-sheet-spec =
+    tie.close
+    (tie.spec
+    returns
+    (λ c κs. search needs)
+    (λ c. search needs)
+    (λ c κs. search needs)
+    (λ c. search needs)
+    (λ c. search needs)
+    returns-2
+    returns-3)
