@@ -9,16 +9,16 @@ use lib.ListN.{length}
 use lib.Dec.{ltb}
 use borrow.Author.Tests.{ltb-false}
 use Rattle.memory.specs.Reading.{_>>=_, each}
+use Rattle.memory.specs.Address.{null}
 use Rattle.memory.proofs.ReadBounds.{Reads, dones, refuses, asks, weaken, bind, if-cases, if-reads, both}
-use Rattle.settings.specs.declared.Settings.{Settings}
 use Rattle.blocks.specs.declared.FillMode.{FillMode}
 use Rattle.blocks.specs.declared.Segment.{Segment}
-use Rattle.blocks.specs.RowBlock.{null}
 use Rattle.blocks.proofs.BlockBounds.{Short, Few}
 use Rattle.layout.specs.declared.Side.the-variants.{Before, After}
 use Rattle.layout.specs.Layout.{width, total, boundary, Overlay, none, over, edgesFit, segmentsOn}
 use Rattle.layout.proofs.LayoutLaws.{clear, before-total, after-total, sides-length, side-short}
 use Rattle.layout.proofs.OverlayBounds.{Inside}
+use Rattle.codes.specs.declared.CodeSettings.{CodeSettings}
 use Rattle.codes.specs.declared.Source.{Source}
 use Rattle.codes.specs.declared.Source.the-variants.{Background, Window}
 use Rattle.codes.specs.Attribute.{latches}
@@ -30,7 +30,7 @@ filled-at : (fill : FillMode) (end : ℕ) (d : Drawing) → Inked end d → At e
 unfolding filled
 filled-at fill end d h = put-at (end - d .pen .column) _ end d (h .0) (omega arith)
 
-module _ (σ : Settings) (fill : FillMode) where
+module _ (σ : CodeSettings) (fill : FillMode) where
   pub fill-reads : (end : ℕ) (d : Drawing) → Inked end d → Reads (At end) 1 (fillTo σ fill end d)
   unfolding fillTo fillByWord _>>=_ taking
   fill-reads end d h =

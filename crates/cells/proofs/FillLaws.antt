@@ -8,11 +8,11 @@ use native.Mathlib.Nat.{sub-self}
 use lib.ListN.{length, take, set, replicate, replicate-append-replicate}
 use borrow.Author.Tests.{lt-ltb, le-ltb}
 use Rattle.memory.specs.declared.Fetch.the-variants.{Word, Absent}
-use Rattle.memory.specs.Reading.{_>>=_, fetch, given, refused, runFrom}
+use Rattle.memory.specs.Reading.{_>>=_, fetch, missing, given, refused, runFrom}
 use Rattle.memory.proofs.Laws.{run-done, run-refuse, ask-word, ask-absent}
 use Rattle.memory.proofs.ListLaws.{take-next}
-use Rattle.settings.specs.declared.Settings.{Settings}
 use Rattle.blocks.specs.declared.FillMode.{FillMode}
+use Rattle.codes.specs.declared.CodeSettings.{CodeSettings}
 use Rattle.codes.specs.declared.Source.the-variants.{Fill}
 use Rattle.codes.specs.declared.Pen.{Pen}
 use Rattle.codes.specs.declared.Drawn.{Drawn}
@@ -20,7 +20,7 @@ use Rattle.codes.specs.declared.Drawn.the-variants.{Accepted, Refused}
 use Rattle.codes.specs.Attribute.{latches, cell}
 use Rattle.codes.specs.Codes.{Drawing, drawing, movedTo, taking, put}
 use Rattle.codes.specs.Answers.{soFar}
-use Rattle.cells.specs.Cells.{filled, fillByWord, fillTo}
+use Rattle.cells.specs.Cells.{filled, unlatched, fillByWord, fillTo}
 use Rattle.cells.specs.Answers.{Reached}
 
 -- ---- cells in an array ----
@@ -46,21 +46,21 @@ filled-run fill end p cs cs′ l e =
 -- ---- answers ----
 pub reached-more : (end k l : ℕ) (r : Drawn) → Reached end k r → k ≤ l → Reached end l r
 reached-more end k l (Accepted p n) h i = (h .0, omega arith)
-reached-more end k l (Refused n a) h i = (zero-le, zero-le)
+reached-more end k l (Refused x) h i = (zero-le, zero-le)
 
 -- ---- fill runs ----
-module _ (n : ℕ) (m : List ℕ) (σ : Settings) (fill : FillMode) (end : ℕ) (d : Drawing) where
-  pub fill-word : (x : ℕ) → fetch m (d .pen .list .next) ≡ Word x → latches x ≡ true
+module _ (n : ℕ) (m : List ℕ) (σ : CodeSettings) (fill : FillMode) (end : ℕ) (d : Drawing) where
+  pub fill-word : (x : ℕ) → fetch m (d .pen .list .next .address) ≡ Word x → latches x ≡ true
       → runFrom n m (fillByWord σ fill end d) ≡ given (n + 1) (filled fill end (drawing (taking (σ .linear) x (d .pen)) (d .cells)))
   unfolding fillByWord _>>=_
   fill-word x e h = ask-word n m (d .pen .list .next) _ x e ∙ rw h (run-done _ _ _)
 
-  pub fill-unlatched : (x : ℕ) → fetch m (d .pen .list .next) ≡ Word x → latches x ≡ false
-      → runFrom n m (fillByWord σ fill end d) ≡ refused 13 (d .pen .list .next)
+  pub fill-unlatched : (x : ℕ) → fetch m (d .pen .list .next .address) ≡ Word x → latches x ≡ false
+      → runFrom n m (fillByWord σ fill end d) ≡ refused (unlatched (d .pen .list .next))
   unfolding fillByWord _>>=_
-  fill-unlatched x e h = ask-word n m (d .pen .list .next) _ x e ∙ rw h (run-refuse _ _ _ _)
+  fill-unlatched x e h = ask-word n m (d .pen .list .next) _ x e ∙ rw h (run-refuse _ _ _)
 
-  pub fill-absent : fetch m (d .pen .list .next) ≡ Absent → runFrom n m (fillByWord σ fill end d) ≡ refused 7 (d .pen .list .next)
+  pub fill-absent : fetch m (d .pen .list .next .address) ≡ Absent → runFrom n m (fillByWord σ fill end d) ≡ refused (missing (d .pen .list .next))
   unfolding fillByWord _>>=_
   fill-absent e = ask-absent n m (d .pen .list .next) _ e
 

@@ -1,17 +1,15 @@
 -- A drawing's outcome, from what its finished cells say.
-use mathlib.Core.Path.{_≡_, ap, ap₂}
+use mathlib.Core.Path.{_≡_, ap}
 use Prim.Native.Nat.{ℕ}
 use native.Mathlib.Omega.{arith}
+use Rattle.memory.specs.declared.Fault.{Fault}
 use Rattle.memory.specs.Reading.{Outcome, given, refused}
 use Rattle.codes.specs.Codes.{Drawing}
 use Rattle.cells.specs.Answers.{Finished, ofDrawing, finish}
 
-pub finish-refused : (o : Outcome Drawing) {n a : ℕ} → refused n a ≡ finish o → refused n a ≡ o
+pub finish-refused : (o : Outcome Drawing) {x : Fault} → refused x ≡ finish o → refused x ≡ o
 finish-refused (given k d) e = cc
-finish-refused (refused k b) {n} {a} e =
-    let number : n ≡ k = cc in
-    let address : a ≡ b = cc in
-    ap₂ refused number address
+finish-refused (refused y) {x} e = let same : x ≡ y = cc in ap refused same
 
 -- the drawing that cells were finished from
 pub record From (o : Outcome Drawing) (n : ℕ) (f : Finished) : Type 0 where
@@ -24,4 +22,4 @@ finish-given (given k d) {n} {f} e =
     let count : n ≡ k = cc in
     let made : f ≡ ofDrawing d = cc in
     record { drawing = d; is = ap (λ (i : ℕ). given i d) count; same = made }
-finish-given (refused k b) e = let q : _≡_ {A = ℕ} 0 1 = cc in absurd (omega (arith, q))
+finish-given (refused y) e = let q : _≡_ {A = ℕ} 0 1 = cc in absurd (omega (arith, q))

@@ -7,6 +7,7 @@ use native.Mathlib.Omega.{arith}
 use native.Mathlib.Nat.{zero-add}
 use lib.ListN.{drop}
 use Rattle.memory.specs.Word.{if_then_else_}
+use Rattle.memory.specs.declared.Fault.{Fault}
 use Rattle.memory.specs.Reading.{Reading, done, _>>=_, each, given, refused, runFrom}
 use Rattle.memory.proofs.Laws.{bind-given, bind-refused, run-done}
 use Rattle.memory.proofs.ReadBounds.{both}
@@ -68,7 +69,7 @@ module _ (n : ℕ) (m : List ℕ) (l hidden : Bool) (side : Side) (at left i : �
     pub side-given : {k : ℕ} {e : B} → 0 < left → runFrom n m drawn ≡ given k e → runFrom n m (each f here d) ≡ runFrom k m (each f after e)
     side-given h e = ap (runFrom n m) (eachOf h) ∙ bind-given n m drawn (each f after) e
 
-    pub side-refused : {k a : ℕ} → 0 < left → runFrom n m drawn ≡ refused k a → runFrom n m (each f here d) ≡ refused k a
+    pub side-refused : {x : Fault} → 0 < left → runFrom n m drawn ≡ refused x → runFrom n m (each f here d) ≡ refused x
     side-refused h e = ap (runFrom n m) (eachOf h) ∙ bind-refused n m drawn (each f after) e
 
     pub side-none : left ≡ 0 → runFrom n m (each f here d) ≡ given n d

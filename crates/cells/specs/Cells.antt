@@ -4,13 +4,15 @@ use mathlib.Core.Bool.{_&&_}
 use mathlib.Core.List.{List}
 use lib.Dec.{ltb}
 use Rattle.memory.specs.Word.{if_then_else_}
+use Rattle.memory.specs.declared.Fault.{Fault}
+use Rattle.memory.specs.declared.Pointer.{Pointer}
+use Rattle.memory.specs.Address.{null}
 use Rattle.memory.specs.Reading.{Reading, done, refuse, word, _>>=_, each}
-use Rattle.settings.specs.declared.Settings.{Settings}
 use Rattle.blocks.specs.declared.FillMode.{FillMode}
 use Rattle.blocks.specs.declared.Segment.{Segment}
-use Rattle.blocks.specs.RowBlock.{null}
 use Rattle.layout.specs.declared.Side.the-variants.{Before, After}
 use Rattle.layout.specs.Layout.{width, Overlay, none, over, segmentsOn}
+use Rattle.codes.specs.declared.CodeSettings.{CodeSettings}
 use Rattle.codes.specs.declared.Source.{Source}
 use Rattle.codes.specs.declared.Source.the-variants.{Fill, Background, Window}
 use Rattle.codes.specs.Attribute.{latches, cell}
@@ -24,14 +26,18 @@ codeCount g = if null (g .codes) then 0 else g .length
 unfoldable pub filled : FillMode → ℕ → Drawing → Drawing
 filled fill end d = put (end - d .pen .column) (cell Fill (d .pen .latch) (fill .code)) d
 
-module _ (σ : Settings) (fill : FillMode) where
-  -- a run that takes a word, "which must have bit 15 and becomes the latch"; refusal 13: "fill word without bit 15"
+-- Refusal 13, "fill word without bit 15", has the address of the word
+abbrev pub unlatched : Pointer → Fault
+unlatched p = record { number = 13; address = p .address }
+
+module _ (σ : CodeSettings) (fill : FillMode) where
+  -- a run that takes a word, "which must have bit 15 and becomes the latch"
   unfoldable pub fillByWord : ℕ → Drawing → Reading Drawing
   fillByWord end d = do
     w ← word (d .pen .list .next)
     if latches w
         then done (filled fill end (drawing (taking (σ .linear) w (d .pen)) (d .cells)))
-        else refuse 13 (d .pen .list .next)
+        else refuse (unlatched (d .pen .list .next))
 
   -- a fill run up to a column: "A run of no cells does nothing. With the fill flag each run first takes the next word of the
   -- list in use .. No such segment, or a null list: the latch stands."

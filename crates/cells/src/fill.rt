@@ -1,12 +1,13 @@
 // Fill runs.
 use blocks::FillMode;
+use codes::CodeSettings;
 use codes::Drawn;
 use codes::Pen;
 use codes::Source;
 use codes::attribute;
 use codes::pens;
+use memory::Fault;
 use memory::Fetch;
-use settings::Settings;
 ghost use mathlib.Core.Path.{_≡_};
 ghost use mathlib.Core.List.{_++_};
 ghost use Prim.Native.Nat.{_+_, _-_, _≤_};
@@ -19,7 +20,7 @@ ghost use Rattle.cells.specs.Answers.{Reached};
 // A fill run up to the column `end`.
 pub(crate) fn fill_to(
     mem: &[u16],
-    settings: Settings,
+    settings: CodeSettings,
     fill: FillMode,
     end: usize,
     pen: Pen,
@@ -47,7 +48,7 @@ pub(crate) fn fill_to(
 // A fill run that takes a word of the list in use first.
 fn fill_by_word(
     mem: &[u16],
-    settings: Settings,
+    settings: CodeSettings,
     fill: FillMode,
     end: usize,
     pen: Pen,
@@ -59,7 +60,7 @@ fn fill_by_word(
     ensures { λ r. ⌜ drawn r (now (cells .exit)) ≡ runFrom words (now (mem .entry)) (fillByWord settings fill end (soFar pen (now (cells .entry)))) ⌝ }
 {
     let next = pen.list.next;
-    match memory::word_at(mem, next) {
+    match memory::word_at(mem, next.address) {
         Fetch::Word(w) => {
             if memory::bit_15(w) {
                 let taken = pens::take_word(settings.linear, w, pen);
@@ -68,16 +69,13 @@ fn fill_by_word(
                     words: words + 1,
                 }
             } else {
-                Drawn::Refused {
+                Drawn::Refused(Fault {
                     number: 13,
-                    address: next,
-                }
+                    address: next.address,
+                })
             }
         }
-        Fetch::Absent => Drawn::Refused {
-            number: 7,
-            address: next,
-        },
+        Fetch::Absent => Drawn::Refused(memory::missing(next)),
     }
 }
 

@@ -1,13 +1,15 @@
 // The cells of a row, drawn left to right.
 use blocks::FillMode;
 use blocks::Segment;
+use codes::CodeSettings;
 use codes::Drawn;
 use codes::Pen;
+use codes::Room;
 use codes::Source;
 use codes::pens;
 use layout::OverlayHead;
 use layout::Side;
-use settings::Settings;
+use memory::Fault;
 ghost use mathlib.Core.Path.{_≡_};
 ghost use Prim.Native.Nat.{_+_, _*_, _≤_};
 ghost use lib.ListN.{length};
@@ -30,16 +32,13 @@ pub enum CellsDrawn {
         latched: bool,
         words: u32,
     },
-    Refused {
-        number: u8,
-        address: u32,
-    },
+    Refused(Fault),
 }
 
 // The cells of a row from a latch, in order, as its plan says: the background's segments in `back`, a window's in `window`.
 pub fn draw_cells(
     mem: &[u16],
-    settings: Settings,
+    settings: CodeSettings,
     fill: FillMode,
     overlay: OverlayHead,
     back: &[u16; 75],
@@ -65,7 +64,7 @@ pub fn draw_cells(
         words,
         cells,
     ) {
-        Drawn::Refused { number, address } => CellsDrawn::Refused { number, address },
+        Drawn::Refused(fault) => CellsDrawn::Refused(fault),
         Drawn::Accepted { pen, words: read } => CellsDrawn::Accepted {
             latch: pen.latch,
             latched: pen.latched,
@@ -78,13 +77,17 @@ pub fn draw_cells(
 pub fn code_count(g: Segment) -> u32
     ensures { λ r. ⌜ (r ≡ codeCount g) × (r ≤ 255) ⌝ }
 {
-    if g.codes == 0 { 0 } else { g.length as u32 }
+    if g.codes.address == 0 {
+        0
+    } else {
+        g.length as u32
+    }
 }
 
 // The walk from left to right.
 fn walk_cells(
     mem: &[u16],
-    settings: Settings,
+    settings: CodeSettings,
     fill: FillMode,
     overlay: OverlayHead,
     back: &[u16; 75],
@@ -138,7 +141,7 @@ fn walk_cells(
 // The background before a window, the window, and the background after it.
 fn draw_around(
     mem: &[u16],
-    settings: Settings,
+    settings: CodeSettings,
     fill: FillMode,
     first: usize,
     end: usize,
@@ -170,12 +173,12 @@ fn draw_around(
         words,
         cells,
     ) {
-        Drawn::Refused { number, address } => Drawn::Refused { number, address },
+        Drawn::Refused(fault) => Drawn::Refused(fault),
         Drawn::Accepted {
             pen: before,
             words: read,
         } => {
-            let begun = pens::with_list(0, before);
+            let begun = pens::with_list(memory::Pointer { address: 0 }, before);
             match draw_run(
                 mem,
                 settings,
@@ -189,7 +192,7 @@ fn draw_around(
                 read,
                 cells,
             ) {
-                Drawn::Refused { number, address } => Drawn::Refused { number, address },
+                Drawn::Refused(fault) => Drawn::Refused(fault),
                 Drawn::Accepted {
                     pen: after,
                     words: so_far,
@@ -219,7 +222,7 @@ fn draw_around(
 // The segments on a side, then the fill run up to the column `end`.
 fn draw_run(
     mem: &[u16],
-    settings: Settings,
+    settings: CodeSettings,
     fill: FillMode,
     source: Source,
     side: Side,
@@ -247,7 +250,7 @@ fn draw_run(
         words,
         cells,
     ) {
-        Drawn::Refused { number, address } => Drawn::Refused { number, address },
+        Drawn::Refused(fault) => Drawn::Refused(fault),
         Drawn::Accepted {
             pen: after,
             words: read,
@@ -258,7 +261,7 @@ fn draw_run(
 // The segments on a side, one after the other.
 fn draw_side(
     mem: &[u16],
-    settings: Settings,
+    settings: CodeSettings,
     fill: FillMode,
     source: Source,
     side: Side,
@@ -279,11 +282,11 @@ fn draw_side(
     let mut at = 0;
     let mut i = 0;
     while i < n {
-        let g = layout::segment_at(settings.linear, segments, i);
+        let g = blocks::segment_at(settings.linear, segments, i);
         let w = layout::width(settings.hidden, g);
         let chosen = layout::on_side(side, at, w);
         match draw_chosen(mem, settings, fill, source, chosen, g, current, read, cells) {
-            Drawn::Refused { number, address } => return Drawn::Refused { number, address },
+            Drawn::Refused(fault) => return Drawn::Refused(fault),
             Drawn::Accepted {
                 pen: after,
                 words: so_far,
@@ -304,7 +307,7 @@ fn draw_side(
 // One segment, where it is chosen.
 fn draw_chosen(
     mem: &[u16],
-    settings: Settings,
+    settings: CodeSettings,
     fill: FillMode,
     source: Source,
     chosen: bool,
@@ -327,7 +330,7 @@ fn draw_chosen(
 // One segment, from the pen's column on.
 fn draw_segment(
     mem: &[u16],
-    settings: Settings,
+    settings: CodeSettings,
     fill: FillMode,
     source: Source,
     g: Segment,
@@ -340,19 +343,21 @@ fn draw_segment(
     ensures { λ r. ⌜ drawn r (now (cells .exit)) ≡ runFrom words (now (mem .entry)) (segment settings fill source g (soFar pen (now (cells .entry)))) ⌝ }
 {
     let end = pen.column + layout::width(settings.hidden, g);
-    let begun = pens::with_list(g.attributes, pen);
+    let attributes = g.attributes;
+    let begun = pens::with_list(attributes, pen);
+    let room = Room { source, end };
+    let first = g.codes;
     match runs::draw_codes(
         mem,
         settings,
-        source,
-        end,
+        room,
         code_count(g),
-        g.codes,
+        first,
         begun,
         words,
         cells,
     ) {
-        Drawn::Refused { number, address } => Drawn::Refused { number, address },
+        Drawn::Refused(fault) => Drawn::Refused(fault),
         Drawn::Accepted {
             pen: after,
             words: read,

@@ -10,9 +10,10 @@ use lib.Dec.{ltb, lit<}
 use borrow.Author.Tests.{ltb-true}
 use Rattle.memory.specs.Word.{high, low}
 use Rattle.memory.specs.Reading.{_>>=_, each}
-use Rattle.memory.specs.Address.{nextWord}
+use Rattle.memory.specs.declared.Pointer.{Pointer}
+use Rattle.memory.specs.Address.{onward}
 use Rattle.memory.proofs.ReadBounds.{Reads, dones, asks, bind, if-cases, if-reads, both}
-use Rattle.settings.specs.declared.Settings.{Settings}
+use Rattle.codes.specs.declared.CodeSettings.{CodeSettings}
 use Rattle.codes.specs.declared.Source.{Source}
 use Rattle.codes.specs.Attribute.{invokes, ignores, cell}
 use Rattle.codes.specs.Codes.{Drawing, drawing, taking, put, character, examine, wordCodes, codes}
@@ -32,7 +33,7 @@ pub put-at : (n value c : ℕ) (d : Drawing) → Even d → d .pen .column + n �
 unfolding put
 put-at n value c d h e = (simp (length-append, length-replicate) (omega arith), e)
 
-module _ (σ : Settings) where
+module _ (σ : CodeSettings) where
   character-inked : (source : Source) (end attribute code : ℕ) (d : Drawing) → Inked end d → Inked end (character (σ .hidden) source end attribute code d)
   unfolding character
   character-inked source end attribute code d h =
@@ -57,12 +58,12 @@ module _ (σ : Settings) where
       bind {n = 1} {k = length cs} (omega arith) (examine-reads source end c d h) (each-examined source end cs)
 
   -- three words to two codes
-  pub codes-read : (source : Source) (end n a : ℕ) (d : Drawing) → Inked end d → Reads (Inked end) ((3 * n + 1) / 2) (codes σ source end n a d)
+  pub codes-read : (source : Source) (end n : ℕ) (p : Pointer) (d : Drawing) → Inked end d → Reads (Inked end) ((3 * n + 1) / 2) (codes σ source end n p d)
   unfolding codes wordCodes _>>=_
-  codes-read source end zero a d h = dones h
-  codes-read source end (suc zero) a d h = asks {k = 1} (lit< tt) λ w _. each-examined source end (high w ∷ []) d h
-  codes-read source end (suc (suc n)) a d h =
+  codes-read source end zero p d h = dones h
+  codes-read source end (suc zero) p d h = asks {k = 1} (lit< tt) λ w _. each-examined source end (high w ∷ []) d h
+  codes-read source end (suc (suc n)) p d h =
       let t = (3 * n + 1) / 2 in
       asks {n = (3 * suc (suc n) + 1) / 2} {k = t + 2} (omega arith) λ w _.
       bind {n = 2} {k = t} (omega arith) (each-examined source end (high w ∷ low w ∷ []) d h) λ d₁ h₁.
-      codes-read source end n (nextWord (σ .linear) a) d₁ h₁
+      codes-read source end n (onward (σ .linear) p) d₁ h₁

@@ -10,12 +10,14 @@ use lib.Seq.{drop-cons}
 use lib.Dec.{ltb}
 use borrow.Author.Tests.{ltb-true}
 use Rattle.memory.specs.declared.Fetch.the-variants.{Word, Absent}
-use Rattle.memory.specs.Reading.{_>>=_, each, fetch, given, refused, runFrom}
-use Rattle.memory.specs.Address.{nextWord}
+use Rattle.memory.specs.declared.Fault.{Fault}
+use Rattle.memory.specs.declared.Pointer.{Pointer}
+use Rattle.memory.specs.Reading.{_>>=_, each, fetch, missing, given, refused, runFrom}
+use Rattle.memory.specs.Address.{onward}
 use Rattle.memory.proofs.Laws.{bind-given, bind-refused, run-done, ask-word, ask-absent}
 use Rattle.memory.proofs.ListLaws.{take-next}
 use Rattle.memory.proofs.ReadBounds.{both}
-use Rattle.settings.specs.declared.Settings.{Settings}
+use Rattle.codes.specs.declared.CodeSettings.{CodeSettings}
 use Rattle.codes.specs.declared.Source.{Source}
 use Rattle.codes.specs.declared.Source.the-variants.{Fill, Background, Window}
 use Rattle.codes.specs.declared.Pen.{Pen}
@@ -50,16 +52,16 @@ module _ (hidden : Bool) (source : Source) (end a code : ℕ) (p : Pen) (cs : Li
   character-out h = rw h
 
 -- ---- codes ----
-module _ (n : ℕ) (m : List ℕ) (σ : Settings) (source : Source) (end : ℕ) where
+module _ (n : ℕ) (m : List ℕ) (σ : CodeSettings) (source : Source) (end : ℕ) where
   module _ (code : ℕ) (d : Drawing) where
-    pub examine-word : (x : ℕ) → invokes (σ .flag) code && d .pen .list .present ≡ true → fetch m (d .pen .list .next) ≡ Word x
+    pub examine-word : (x : ℕ) → invokes (σ .flag) code && d .pen .list .present ≡ true → fetch m (d .pen .list .next .address) ≡ Word x
         → runFrom n m (examine σ source end code d)
         ≡ given (n + 1) (character (σ .hidden) source end x code (drawing (taking (σ .linear) x (d .pen)) (d .cells)))
     unfolding examine _>>=_
     examine-word x t e = rw t (ask-word n m (d .pen .list .next) _ x e ∙ run-done _ _ _)
 
-    pub examine-absent : invokes (σ .flag) code && d .pen .list .present ≡ true → fetch m (d .pen .list .next) ≡ Absent
-        → runFrom n m (examine σ source end code d) ≡ refused 7 (d .pen .list .next)
+    pub examine-absent : invokes (σ .flag) code && d .pen .list .present ≡ true → fetch m (d .pen .list .next .address) ≡ Absent
+        → runFrom n m (examine σ source end code d) ≡ refused (missing (d .pen .list .next))
     unfolding examine _>>=_
     examine-absent t e = rw t (ask-absent n m (d .pen .list .next) _ e)
 
@@ -84,8 +86,8 @@ module _ (n : ℕ) (m : List ℕ) (σ : Settings) (source : Source) (end : ℕ) 
         let e : k - i ≡ 0 = omega arith in
         ap (λ (j : ℕ). runFrom n m (each (examine σ source end) (take j (drop i bytes)) d)) e ∙ run-done _ _ _
 
-    pub bytes-refused : {j at : ℕ} → i < k → k ≤ length bytes → runFrom n m (examine σ source end (getD bytes i 0) d) ≡ refused j at
-        → runFrom n m (each (examine σ source end) left d) ≡ refused j at
+    pub bytes-refused : {x : Fault} → i < k → k ≤ length bytes → runFrom n m (examine σ source end (getD bytes i 0) d) ≡ refused x
+        → runFrom n m (each (examine σ source end) left d) ≡ refused x
     unfolding each
     bytes-refused h l e = ap (λ (bs : List ℕ). runFrom n m (each (examine σ source end) bs d)) (one-more h l) ∙ bind-refused n m _ _ e
 
@@ -96,33 +98,33 @@ module _ (n : ℕ) (m : List ℕ) (σ : Settings) (source : Source) (end : ℕ) 
     bytes-more h l e = ap (λ (bs : List ℕ). runFrom n m (each (examine σ source end) bs d)) (one-more h l) ∙ bind-given n m _ _ e
 
   -- the codes of a segment: none; a word, with one or two of them
-  module _ (a : ℕ) (d : Drawing) where
-    pub codes-none : (left : ℕ) → left ≡ 0 → runFrom n m (codes σ source end left a d) ≡ given n d
+  module _ (p : Pointer) (d : Drawing) where
+    pub codes-none : (left : ℕ) → left ≡ 0 → runFrom n m (codes σ source end left p d) ≡ given n d
     unfolding codes
-    codes-none left h = ap (λ (i : ℕ). runFrom n m (codes σ source end i a d)) h ∙ run-done _ _ _
+    codes-none left h = ap (λ (i : ℕ). runFrom n m (codes σ source end i p d)) h ∙ run-done _ _ _
 
-    pub codes-absent : (left : ℕ) → 0 < left → fetch m a ≡ Absent → runFrom n m (codes σ source end left a d) ≡ refused 7 a
+    pub codes-absent : (left : ℕ) → 0 < left → fetch m (p .address) ≡ Absent → runFrom n m (codes σ source end left p d) ≡ refused (missing p)
     unfolding codes _>>=_
     codes-absent zero h e = absurd (omega arith)
-    codes-absent (suc zero) h e = ask-absent n m a _ e
-    codes-absent (suc (suc k)) h e = ask-absent n m a _ e
+    codes-absent (suc zero) h e = ask-absent n m p _ e
+    codes-absent (suc (suc k)) h e = ask-absent n m p _ e
 
-    module _ (x : ℕ) (e : fetch m a ≡ Word x) where
-      pub codes-refused : (left : ℕ) {i at : ℕ} → 0 < left → runFrom (n + 1) m (wordCodes σ source end (min left 2) x d) ≡ refused i at
-          → runFrom n m (codes σ source end left a d) ≡ refused i at
+    module _ (x : ℕ) (e : fetch m (p .address) ≡ Word x) where
+      pub codes-refused : (left : ℕ) {y : Fault} → 0 < left → runFrom (n + 1) m (wordCodes σ source end (min left 2) x d) ≡ refused y
+          → runFrom n m (codes σ source end left p d) ≡ refused y
       unfolding codes _>>=_
       codes-refused zero h r = absurd (omega arith)
-      codes-refused (suc zero) h r = ask-word n m a _ x e ∙ r
+      codes-refused (suc zero) h r = ask-word n m p _ x e ∙ r
       codes-refused (suc (suc k)) h r =
           let two : min (suc (suc k)) 2 ≡ 2 = omega arith in
-          ask-word n m a _ x e ∙ bind-refused (n + 1) m _ _ (rw two at r)
+          ask-word n m p _ x e ∙ bind-refused (n + 1) m _ _ (rw two at r)
 
       pub codes-more : (left : ℕ) {i : ℕ} {b : Drawing} → 0 < left → runFrom (n + 1) m (wordCodes σ source end (min left 2) x d) ≡ given i b
-          → runFrom n m (codes σ source end left a d) ≡ runFrom i m (codes σ source end (left - min left 2) (nextWord (σ .linear) a) b)
+          → runFrom n m (codes σ source end left p d) ≡ runFrom i m (codes σ source end (left - min left 2) (onward (σ .linear) p) b)
       unfolding codes _>>=_
       codes-more zero h r = absurd (omega arith)
-      codes-more (suc zero) h r = ask-word n m a _ x e ∙ r ∙ sym (run-done _ _ _)
+      codes-more (suc zero) h r = ask-word n m p _ x e ∙ r ∙ sym (run-done _ _ _)
       codes-more (suc (suc k)) h r =
           let two : min (suc (suc k)) 2 ≡ 2 = omega arith in
           let rest : suc (suc k) - min (suc (suc k)) 2 ≡ k = omega arith in
-          ask-word n m a _ x e ∙ bind-given (n + 1) m _ _ (rw two at r) ∙ rw rest
+          ask-word n m p _ x e ∙ bind-given (n + 1) m _ _ (rw two at r) ∙ rw rest

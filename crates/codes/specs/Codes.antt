@@ -6,9 +6,9 @@ use lib.ListN.{take, replicate}
 use lib.Dec.{ltb}
 use Rattle.memory.specs.Word.{if_then_else_, high, low}
 use Rattle.memory.specs.Reading.{Reading, done, word, _>>=_, each}
-use Rattle.memory.specs.Address.{nextWord}
-use Rattle.settings.specs.declared.Settings.{Settings}
-use Rattle.blocks.specs.RowBlock.{null}
+use Rattle.memory.specs.declared.Pointer.{Pointer}
+use Rattle.memory.specs.Address.{to, null, onward}
+use Rattle.codes.specs.declared.CodeSettings.{CodeSettings}
 use Rattle.codes.specs.declared.Source.{Source}
 use Rattle.codes.specs.declared.AttributeList.{AttributeList}
 use Rattle.codes.specs.declared.Pen.{Pen}
@@ -23,11 +23,11 @@ abbrev pub drawing : Pen → List ℕ → Drawing
 drawing p cs = record { pen = p; cells = cs }
 
 -- a list from an attribute pointer on; a null pointer is no list
-abbrev pub listAt : ℕ → AttributeList
-listAt a = record { present = not (null a); next = a }
+abbrev pub listAt : Pointer → AttributeList
+listAt p = record { present = not (null p); next = p }
 
 abbrev pub noList : AttributeList
-noList = listAt 0
+noList = listAt (to 0)
 
 -- no cell yet, no list in use, and no word has become the latch
 abbrev pub blank : ℕ → Drawing
@@ -49,7 +49,7 @@ taking linear w p = record {
   column = p .column;
   latch = if latches w then w else p .latch;
   latched = if latches w then true else p .latched;
-  list = record { present = p .list .present; next = nextWord linear (p .list .next) };
+  list = record { present = p .list .present; next = onward linear (p .list .next) };
 }
 
 -- n cells of one value more
@@ -61,7 +61,7 @@ unfoldable pub character : Bool → Source → ℕ → ℕ → ℕ → Drawing �
 character hidden source end attribute code d =
     if (hidden || not (ignores attribute)) && ltb (d .pen .column) end then put 1 (cell source attribute code) d else d
 
-module _ (σ : Settings) where
+module _ (σ : CodeSettings) where
   -- "A code invokes an attribute when .. its segment's attribute pointer is not null (ours). It takes the next word of that
   -- segment's list. Bit 15 makes the word the latch; otherwise it holds for that character only. A code that invokes none has
   -- the latch."
@@ -76,12 +76,12 @@ module _ (σ : Settings) where
   wordCodes source end n w d = each (examine source end) (take n (high w ∷ low w ∷ [])) d
 
   -- "All L codes are examined, high byte of a word first, ceil(L/2) words"
-  unfoldable pub codes : Source → ℕ → ℕ → ℕ → Drawing → Reading Drawing
-  codes source end zero a d = done d
-  codes source end (suc zero) a d = do
-    w ← word a
+  unfoldable pub codes : Source → ℕ → ℕ → Pointer → Drawing → Reading Drawing
+  codes source end zero p d = done d
+  codes source end (suc zero) p d = do
+    w ← word p
     wordCodes source end 1 w d
-  codes source end (suc (suc n)) a d = do
-    w ← word a
+  codes source end (suc (suc n)) p d = do
+    w ← word p
     d₁ ← wordCodes source end 2 w d
-    codes source end n (nextWord (σ .linear) a) d₁
+    codes source end n (onward (σ .linear) p) d₁

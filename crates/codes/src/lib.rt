@@ -1,7 +1,17 @@
 // The codes of a segment: each takes its attribute and becomes a character of the row, unless it is ignored or dropped.
+use memory::Fault;
+use memory::Pointer;
+
 pub mod attribute; // attribute words, and the bits of a cell
 pub mod pens; // where drawing stands
 pub mod word_by_word; // the codes of a segment, word by word
+
+// The settings that codes are drawn by: linear addresses, Display Hidden, and the attribute flag.
+pub struct CodeSettings {
+    pub linear: bool,
+    pub hidden: bool,
+    pub flag: u16,
+}
 
 // Where a cell comes from.
 pub enum Source {
@@ -10,10 +20,16 @@ pub enum Source {
     Window,
 }
 
+// The room of characters: the source of their cells, and the column that they stand before.
+pub struct Room {
+    pub source: Source,
+    pub end: usize,
+}
+
 // The attribute list in use, at its next word; none where it is not present.
 pub struct AttributeList {
     pub present: bool,
-    pub next: u32,
+    pub next: Pointer,
 }
 
 // Where drawing stands: the next column, the latch, whether a word of this row became the latch, and the list in use.
@@ -27,5 +43,5 @@ pub struct Pen {
 // Where drawing went, with the words read so far; or the refusal that it met.
 pub enum Drawn {
     Accepted { pen: Pen, words: u32 },
-    Refused { number: u8, address: u32 },
+    Refused(Fault),
 }

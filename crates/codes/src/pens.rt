@@ -1,8 +1,9 @@
 // Where drawing stands.
 use crate::AttributeList;
 use crate::Pen;
-use crate::Source;
+use crate::Room;
 use crate::attribute;
+use memory::Pointer;
 ghost use mathlib.Core.Path.{_≡_};
 ghost use Prim.Native.Nat.{_≤_};
 ghost use lib.ListN.{length};
@@ -23,12 +24,12 @@ pub fn moved_to(column: usize, pen: Pen) -> Pen
 }
 
 // The pen with the list of an attribute pointer in use.
-pub fn with_list(a: u32, pen: Pen) -> Pen
-    ensures { λ r. ⌜ r ≡ usingList (listAt a) pen ⌝ }
+pub fn with_list(p: Pointer, pen: Pen) -> Pen
+    ensures { λ r. ⌜ r ≡ usingList (listAt p) pen ⌝ }
 {
     let list = AttributeList {
-        present: a != 0,
-        next: a,
+        present: p.address != 0,
+        next: p,
     };
     using_list(list, pen)
 }
@@ -51,7 +52,7 @@ pub fn blank(latch: u16) -> Pen
 {
     let list = AttributeList {
         present: false,
-        next: 0,
+        next: Pointer { address: 0 },
     };
     Pen {
         column: 0,
@@ -65,9 +66,10 @@ pub fn blank(latch: u16) -> Pen
 pub fn take_word(linear: bool, w: u16, pen: Pen) -> Pen
     ensures { λ r. ⌜ r ≡ taking linear w pen ⌝ }
 {
+    let next = pen.list.next;
     let list = AttributeList {
         present: pen.list.present,
-        next: memory::next_word(linear, pen.list.next),
+        next: memory::onward(linear, next),
     };
     if memory::bit_15(w) {
         Pen {
@@ -90,19 +92,20 @@ pub fn take_word(linear: bool, w: u16, pen: Pen) -> Pen
 // A character goes into the row, unless it is ignored or has no room.
 pub fn put_character(
     hidden: bool,
-    source: Source,
-    end: usize,
+    room: Room,
     attribute: u16,
     code: u8,
     pen: Pen,
     cells: &mut [u32],
 ) -> Pen
-    requires { ⌜ (end ≤ length (now cells)) × (pen .column ≤ end) ⌝ }
-    ensures { λ r. ⌜ r .column ≤ end ⌝ }
-    ensures { λ r. ⌜ soFar r (now (cells .exit)) ≡ character hidden source end attribute code (soFar pen (now (cells .entry))) ⌝ }
+    requires { ⌜ (room .end ≤ length (now cells)) × (pen .column ≤ room .end) ⌝ }
+    ensures { λ r. ⌜ r .column ≤ room .end ⌝ }
+    ensures { λ r. ⌜ soFar r (now (cells .exit)) ≡ character hidden (room .source) (room .end) attribute code (soFar pen (now (cells .entry))) ⌝ }
 {
     let column = pen.column;
+    let end = room.end;
     if attribute::is_shown(hidden, attribute) & (column < end) {
+        let source = room.source;
         cells[column] = attribute::cell(source, attribute, code);
         moved_to(column + 1, pen)
     } else {

@@ -1,11 +1,12 @@
 // The codes of a segment, word by word: each takes its attribute and becomes a character of the row, unless it is ignored or dropped.
+use crate::CodeSettings;
 use crate::Drawn;
 use crate::Pen;
-use crate::Source;
+use crate::Room;
 use crate::attribute;
 use crate::pens;
 use memory::Fetch;
-use settings::Settings;
+use memory::Pointer;
 ghost use mathlib.Core.Path.{_≡_};
 ghost use mathlib.Core.List.{[], _∷_};
 ghost use Prim.Native.Nat.{_+_, _*_, _≤_, _<_, min};
@@ -18,33 +19,29 @@ ghost use Rattle.codes.specs.Answers.{soFar, drawn, Within};
 // The codes of a segment, word by word: two to a word, the high byte first.
 pub fn draw_word_by_word(
     mem: &[u16],
-    settings: Settings,
-    source: Source,
-    end: usize,
+    settings: CodeSettings,
+    room: Room,
     count: u32,
-    a: u32,
+    p: Pointer,
     pen: Pen,
     words: u32,
     cells: &mut [u32],
 ) -> Drawn
-    requires { ⌜ (end ≤ length (now cells)) × (pen .column ≤ end) × (count ≤ 255) × (words ≤ 4000000000) ⌝ }
-    ensures { λ r. ⌜ Within end (words + 2 * count) r ⌝ }
-    ensures { λ r. ⌜ drawn r (now (cells .exit)) ≡ runFrom words (now (mem .entry)) (codes settings source end count a (soFar pen (now (cells .entry)))) ⌝ }
+    requires { ⌜ (room .end ≤ length (now cells)) × (pen .column ≤ room .end) × (count ≤ 255) × (words ≤ 4000000000) ⌝ }
+    ensures { λ r. ⌜ Within (room .end) (words + 2 * count) r ⌝ }
+    ensures { λ r. ⌜ drawn r (now (cells .exit)) ≡ runFrom words (now (mem .entry)) (codes settings (room .source) (room .end) count p (soFar pen (now (cells .entry)))) ⌝ }
 {
     let mut left = count;
-    let mut at = a;
+    let mut at = p;
     let mut current = pen;
     let mut read = words;
     while 0 < left {
-        let Fetch::Word(w) = memory::word_at(mem, at) else {
-            return Drawn::Refused {
-                number: 7,
-                address: at,
-            };
+        let Fetch::Word(w) = memory::word_at(mem, at.address) else {
+            return Drawn::Refused(memory::missing(at));
         };
         let n = codes_in_word(left);
-        match draw_word(mem, settings, source, end, w, n, current, read + 1, cells) {
-            Drawn::Refused { number, address } => return Drawn::Refused { number, address },
+        match draw_word(mem, settings, room, w, n, current, read + 1, cells) {
+            Drawn::Refused(fault) => return Drawn::Refused(fault),
             Drawn::Accepted {
                 pen: after,
                 words: so_far,
@@ -53,7 +50,7 @@ pub fn draw_word_by_word(
                 read = so_far;
             }
         }
-        at = memory::next_word(settings.linear, at);
+        at = memory::onward(settings.linear, at);
         left -= n;
     }
     Drawn::Accepted {
@@ -65,26 +62,25 @@ pub fn draw_word_by_word(
 // The first `n` of a word's two codes. One call for both keeps the loop over the codes in one piece.
 fn draw_word(
     mem: &[u16],
-    settings: Settings,
-    source: Source,
-    end: usize,
+    settings: CodeSettings,
+    room: Room,
     w: u16,
     n: u32,
     pen: Pen,
     words: u32,
     cells: &mut [u32],
 ) -> Drawn
-    requires { ⌜ (end ≤ length (now cells)) × (pen .column ≤ end) × (n ≤ 2) × (words ≤ 4100000000) ⌝ }
-    ensures { λ r. ⌜ Within end (words + n) r ⌝ }
-    ensures { λ r. ⌜ drawn r (now (cells .exit)) ≡ runFrom words (now (mem .entry)) (wordCodes settings source end n w (soFar pen (now (cells .entry)))) ⌝ }
+    requires { ⌜ (room .end ≤ length (now cells)) × (pen .column ≤ room .end) × (n ≤ 2) × (words ≤ 4100000000) ⌝ }
+    ensures { λ r. ⌜ Within (room .end) (words + n) r ⌝ }
+    ensures { λ r. ⌜ drawn r (now (cells .exit)) ≡ runFrom words (now (mem .entry)) (wordCodes settings (room .source) (room .end) n w (soFar pen (now (cells .entry)))) ⌝ }
 {
     let mut i = 0;
     let mut current = pen;
     let mut read = words;
     while i < n {
         let code = code_at(w, i);
-        match examine_code(mem, settings, source, end, code, current, read, cells) {
-            Drawn::Refused { number, address } => return Drawn::Refused { number, address },
+        match examine_code(mem, settings, room, code, current, read, cells) {
+            Drawn::Refused(fault) => return Drawn::Refused(fault),
             Drawn::Accepted {
                 pen: after,
                 words: so_far,
@@ -104,36 +100,32 @@ fn draw_word(
 // One code: its attribute, and its character in the row unless it is ignored or dropped.
 fn examine_code(
     mem: &[u16],
-    settings: Settings,
-    source: Source,
-    end: usize,
+    settings: CodeSettings,
+    room: Room,
     code: u8,
     pen: Pen,
     words: u32,
     cells: &mut [u32],
 ) -> Drawn
-    requires { ⌜ (end ≤ length (now cells)) × (pen .column ≤ end) × (words ≤ 4200000000) ⌝ }
-    ensures { λ r. ⌜ Within end (words + 1) r ⌝ }
-    ensures { λ r. ⌜ drawn r (now (cells .exit)) ≡ runFrom words (now (mem .entry)) (examine settings source end code (soFar pen (now (cells .entry)))) ⌝ }
+    requires { ⌜ (room .end ≤ length (now cells)) × (pen .column ≤ room .end) × (words ≤ 4200000000) ⌝ }
+    ensures { λ r. ⌜ Within (room .end) (words + 1) r ⌝ }
+    ensures { λ r. ⌜ drawn r (now (cells .exit)) ≡ runFrom words (now (mem .entry)) (examine settings (room .source) (room .end) code (soFar pen (now (cells .entry)))) ⌝ }
 {
     if attribute::invokes(settings.flag, code) & pen.list.present {
         let next = pen.list.next;
-        match memory::word_at(mem, next) {
+        match memory::word_at(mem, next.address) {
             Fetch::Word(w) => {
                 let taken = pens::take_word(settings.linear, w, pen);
                 Drawn::Accepted {
-                    pen: pens::put_character(settings.hidden, source, end, w, code, taken, cells),
+                    pen: pens::put_character(settings.hidden, room, w, code, taken, cells),
                     words: words + 1,
                 }
             }
-            Fetch::Absent => Drawn::Refused {
-                number: 7,
-                address: next,
-            },
+            Fetch::Absent => Drawn::Refused(memory::missing(next)),
         }
     } else {
         Drawn::Accepted {
-            pen: pens::put_character(settings.hidden, source, end, pen.latch, code, pen, cells),
+            pen: pens::put_character(settings.hidden, room, pen.latch, code, pen, cells),
             words,
         }
     }

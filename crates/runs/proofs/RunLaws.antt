@@ -11,11 +11,13 @@ use borrow.Author.Tests.{ltb-true, ltb-false, lt-ltb, le-ltb}
 use Rattle.memory.specs.declared.Fetch.the-variants.{Word}
 use Rattle.memory.specs.Word.{if_then_else_, high, low}
 use Rattle.memory.specs.Reading.{_>>=_, each, fetch, given, runFrom, run}
-use Rattle.memory.specs.Address.{nextWord, ahead, isRun}
+use Rattle.memory.specs.declared.Pointer.{Pointer}
+use Rattle.memory.specs.Address.{to, ahead, onward}
+use Rattle.memory.specs.Answers.{isRun}
 use Rattle.memory.proofs.Laws.{bind-given, run-done, ask-word, step-same, each-append}
 use Rattle.memory.proofs.RunLaws.{ahead-more, run-ends, run-fetch}
 use Rattle.memory.proofs.ReadBounds.{both, if-cases}
-use Rattle.settings.specs.declared.Settings.{Settings}
+use Rattle.codes.specs.declared.CodeSettings.{CodeSettings}
 use Rattle.codes.specs.declared.Source.{Source}
 use Rattle.codes.specs.declared.Pen.{Pen}
 use Rattle.runs.specs.declared.with_list.InForce.{InForce}
@@ -70,15 +72,15 @@ module _ (w : ℕ) (own : InForce) (column : ℕ) (h : Cursor) where
       cases true = e
       cases false = g
 
-  pub pen-taken : (linear : Bool) (list : ℕ) → penOf linear list (withWord w own column h) ≡ movedTo column (taking linear w (penOf linear list h))
+  pub pen-taken : (linear : Bool) (list : Pointer) → penOf linear list (withWord w own column h) ≡ movedTo column (taking linear w (penOf linear list h))
   unfolding taking
   pen-taken linear list =
       ap (λ (next : ℕ). record {
         column = column;
         latch = if latches w then w else h .latch;
         latched = if latches w then true else h .latched;
-        list = record { present = true; next = next };
-      }) (ahead-more linear (h .taken) list)
+        list = record { present = true; next = to next };
+      }) (ahead-more linear (h .taken) (list .address))
 
 -- the pen of a segment's begin
 pub pen-begun : (linear hidden : Bool) (source : Source) (end : ℕ) (p : Pen) → p .list .present ≡ true
@@ -120,36 +122,36 @@ module _ (m : List ℕ) (at i count : ℕ) (h : at + i < length m) where
   pub codes-odd : count - 2 * i ≡ 1 → codesIn (drop (at + i) m) (count - 2 * i) ≡ high (getD m (at + i) 0) ∷ []
   codes-odd e = ap (codesIn (drop (at + i) m)) e ∙ codes-last m (at + i) h
 
-module _ (m : List ℕ) (σ : Settings) (source : Source) (end : ℕ) where
+module _ (m : List ℕ) (σ : CodeSettings) (source : Source) (end : ℕ) where
   -- the codes of words that are there
-  codes-there : (n count p a : ℕ) (d : Drawing) → p + (count + 1) / 2 ≤ length m
-      → ((j : ℕ) → j < (count + 1) / 2 → fetch m (ahead (σ .linear) j a) ≡ Word (getD m (p + j) 0))
-      → runFrom n m (codes σ source end count a d) ≡ runFrom (n + (count + 1) / 2) m (each (examine σ source end) (codesIn (drop p m) count) d)
+  codes-there : (n count p : ℕ) (q : Pointer) (d : Drawing) → p + (count + 1) / 2 ≤ length m
+      → ((j : ℕ) → j < (count + 1) / 2 → fetch m (ahead (σ .linear) j (q .address)) ≡ Word (getD m (p + j) 0))
+      → runFrom n m (codes σ source end count q d) ≡ runFrom (n + (count + 1) / 2) m (each (examine σ source end) (codesIn (drop p m) count) d)
   unfolding codes wordCodes codesIn each ahead _>>=_
-  codes-there n zero p a d h f = ap (λ (i : ℕ). runFrom i m (codes σ source end 0 a d)) (omega arith)
-  codes-there n (suc zero) p a d h f =
-      let first : fetch m a ≡ Word (getD m p 0) = f 0 (omega arith) ∙ ap (λ (i : ℕ). Word (getD m i 0)) (omega arith) in
-      ask-word n m a _ _ first ∙ ap₂ (λ (i : ℕ) (cs : List ℕ). runFrom i m (each (examine σ source end) cs d)) (omega arith) (sym (codes-last m p (omega arith)))
-  codes-there n (suc (suc k)) p a d h f =
+  codes-there n zero p q d h f = ap (λ (i : ℕ). runFrom i m (codes σ source end 0 q d)) (omega arith)
+  codes-there n (suc zero) p q d h f =
+      let first : fetch m (q .address) ≡ Word (getD m p 0) = f 0 (omega arith) ∙ ap (λ (i : ℕ). Word (getD m i 0)) (omega arith) in
+      ask-word n m q _ _ first ∙ ap₂ (λ (i : ℕ) (cs : List ℕ). runFrom i m (each (examine σ source end) cs d)) (omega arith) (sym (codes-last m p (omega arith)))
+  codes-there n (suc (suc k)) p q d h f =
       let w = getD m p 0 in
-      let first : fetch m a ≡ Word w = f 0 (omega arith) ∙ ap (λ (i : ℕ). Word (getD m i 0)) (omega arith) in
+      let first : fetch m (q .address) ≡ Word w = f 0 (omega arith) ∙ ap (λ (i : ℕ). Word (getD m i 0)) (omega arith) in
       let pair = high w ∷ low w ∷ [] in
       let rest = codesIn (drop (suc p) m) k in
-      ask-word n m a _ _ first
-      ∙ step-same (n + 1) ((k + 1) / 2) m (each (examine σ source end) pair d) (codes σ source end k (nextWord (σ .linear) a)) (each (examine σ source end) rest)
-      (λ i d₁. codes-there i k (suc p) (nextWord (σ .linear) a) d₁ (omega arith) (λ j g. f (suc j) (omega arith) ∙ ap (λ (i : ℕ). Word (getD m i 0)) (omega arith)))
+      ask-word n m q _ _ first
+      ∙ step-same (n + 1) ((k + 1) / 2) m (each (examine σ source end) pair d) (codes σ source end k (onward (σ .linear) q)) (each (examine σ source end) rest)
+      (λ i d₁. codes-there i k (suc p) (onward (σ .linear) q) d₁ (omega arith) (λ j g. f (suc j) (omega arith) ∙ ap (λ (i : ℕ). Word (getD m i 0)) (omega arith)))
       ∙ sym (each-append (n + 1 + (k + 1) / 2) m (examine σ source end) pair rest d)
       ∙ ap₂ (λ (i : ℕ) (cs : List ℕ). runFrom i m (each (examine σ source end) cs d)) (omega arith) (sym (codes-both m p (omega arith) k))
 
   -- .. of a run
-  pub codes-run : (n count a : ℕ) (d : Drawing) → isRun (σ .linear) (length m) a ((count + 1) / 2) ≡ true
-      → runFrom n m (codes σ source end count a d)
-      ≡ runFrom (n + (count + 1) / 2) m (each (examine σ source end) (codesIn (drop (a / 2) m) count) d)
-  codes-run n count a d h =
-      codes-there n count (a / 2) a d (run-ends (length m) a ((count + 1) / 2) (σ .linear) h) (λ j. run-fetch (σ .linear) m a ((count + 1) / 2) j h)
+  pub codes-run : (n count : ℕ) (q : Pointer) (d : Drawing) → isRun (σ .linear) (length m) (q .address) ((count + 1) / 2) ≡ true
+      → runFrom n m (codes σ source end count q d)
+      ≡ runFrom (n + (count + 1) / 2) m (each (examine σ source end) (codesIn (drop (q .address / 2) m) count) d)
+  codes-run n count q d h =
+      codes-there n count (q .address / 2) q d (run-ends (length m) (q .address) ((count + 1) / 2) (σ .linear) h) (λ j. run-fetch (σ .linear) m (q .address) ((count + 1) / 2) j h)
 
   -- one code, where the next word of its list is there
-  pub examine-there : (n w code : ℕ) (d : Drawing) → d .pen .list .present ≡ true → fetch m (d .pen .list .next) ≡ Word w
+  pub examine-there : (n w code : ℕ) (d : Drawing) → d .pen .list .present ≡ true → fetch m (d .pen .list .next .address) ≡ Word w
       → runFrom n m (examine σ source end code d) ≡ given (n + (if invokes (σ .flag) code then 1 else 0)) (examined σ source end w code d)
   unfolding examined
   examine-there n w code d p e = cases (invokes (σ .flag) code) refl
@@ -160,14 +162,14 @@ module _ (m : List ℕ) (σ : Settings) (source : Source) (end : ℕ) where
       cases false t = examine-latch n m σ source end code d (rw t) ∙ sym (rw t (ap (λ (i : ℕ). given i (character (σ .hidden) source end (d .pen .latch) code d)) (omega arith)))
 
   -- .. as the cursor of a segment goes on
-  pub listed-step : (n list count c : ℕ) (rest : List ℕ) (h h₁ : Cursor) (cs cs₁ : List ℕ) → isRun (σ .linear) (length m) list count ≡ true
+  pub listed-step : (n : ℕ) (list : Pointer) (count c : ℕ) (rest : List ℕ) (h h₁ : Cursor) (cs cs₁ : List ℕ) → isRun (σ .linear) (length m) (list .address) count ≡ true
       → h .taken < count → h₁ .taken ≡ h .taken + (if invokes (σ .flag) c then 1 else 0)
-      → soFar (penOf (σ .linear) list h₁) cs₁ ≡ examined σ source end (getD m (list / 2 + h .taken) 0) c (soFar (penOf (σ .linear) list h) cs)
+      → soFar (penOf (σ .linear) list h₁) cs₁ ≡ examined σ source end (getD m (list .address / 2 + h .taken) 0) c (soFar (penOf (σ .linear) list h) cs)
       → runFrom (n + h .taken) m (each (examine σ source end) (c ∷ rest) (soFar (penOf (σ .linear) list h) cs))
       ≡ runFrom (n + h₁ .taken) m (each (examine σ source end) rest (soFar (penOf (σ .linear) list h₁) cs₁))
   unfolding each
   listed-step n list count c rest h h₁ cs cs₁ r l t e =
-      let there = run-fetch (σ .linear) m list count (h .taken) r l in
+      let there = run-fetch (σ .linear) m (list .address) count (h .taken) r l in
       bind-given (n + h .taken) m _ _ (examine-there (n + h .taken) _ c (soFar (penOf (σ .linear) list h) cs) refl there)
       ∙ ap₂ (λ (i : ℕ) (d : Drawing). runFrom i m (each (examine σ source end) rest d)) (omega (arith, t)) (sym e)
 
@@ -208,7 +210,7 @@ module _ (hidden : Bool) (source : Source) (end a : ℕ) where
       ∙ characters-dropped rest (character hidden source end a c d) (character-column c d s (f (omega arith))) ∙ sym e
 
 -- without a list
-pub each-plain : (n : ℕ) (m : List ℕ) (σ : Settings) (source : Source) (end latch : ℕ) (cs : List ℕ) (d : Drawing)
+pub each-plain : (n : ℕ) (m : List ℕ) (σ : CodeSettings) (source : Source) (end latch : ℕ) (cs : List ℕ) (d : Drawing)
     → d .pen .list .present ≡ false → d .pen .latch ≡ latch
     → runFrom n m (each (examine σ source end) cs d) ≡ given n (characters (σ .hidden) source end latch cs d)
 unfolding each characters

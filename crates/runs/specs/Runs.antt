@@ -3,8 +3,9 @@ use Prim.Native.Nat.{ℕ, zero, suc, _+_}
 use mathlib.Core.Bool.{Bool, true, _||_, not}
 use mathlib.Core.List.{List, [], _∷_}
 use Rattle.memory.specs.Word.{if_then_else_, high, low}
-use Rattle.memory.specs.Address.{ahead}
-use Rattle.settings.specs.declared.Settings.{Settings}
+use Rattle.memory.specs.declared.Pointer.{Pointer}
+use Rattle.memory.specs.Address.{further}
+use Rattle.codes.specs.declared.CodeSettings.{CodeSettings}
 use Rattle.codes.specs.declared.Source.{Source}
 use Rattle.codes.specs.declared.Pen.{Pen}
 use Rattle.runs.specs.declared.with_list.InForce.{InForce}
@@ -26,7 +27,7 @@ characters hidden source end attribute (c ∷ cs) d =
     characters hidden source end attribute cs (character hidden source end attribute c d)
 
 -- one code of a segment with a list whose next word is w
-unfoldable pub examined : Settings → Source → ℕ → ℕ → ℕ → Drawing → Drawing
+unfoldable pub examined : CodeSettings → Source → ℕ → ℕ → ℕ → Drawing → Drawing
 examined σ source end w code d =
     if invokes (σ .flag) code
     then character (σ .hidden) source end w code (drawing (taking (σ .linear) w (d .pen)) (d .cells))
@@ -56,11 +57,11 @@ withWord w own column h = record {
   attribute = if latches w then own else h .attribute;
 }
 
--- the pen of a cursor, whose list begins at an address
-abbrev pub penOf : Bool → ℕ → Cursor → Pen
+-- the pen of a cursor, whose list begins at a pointer
+abbrev pub penOf : Bool → Pointer → Cursor → Pen
 penOf linear list h = record {
   column = h .column;
   latch = h .latch;
   latched = h .latched;
-  list = record { present = true; next = ahead linear (h .taken) list };
+  list = record { present = true; next = further linear (h .taken) list };
 }

@@ -1,10 +1,11 @@
 // The codes of a segment with a list.
 use codes::AttributeList;
+use codes::CodeSettings;
 use codes::Drawn;
 use codes::Pen;
-use codes::Source;
+use codes::Room;
 use codes::attribute;
-use settings::Settings;
+use memory::Pointer;
 ghost use mathlib.Core.Path.{_≡_};
 ghost use mathlib.Core.Bool.{Bool, true};
 ghost use Prim.Native.Nat.{ℕ, _+_, _-_, _*_, _/_, _≤_, _<_};
@@ -12,7 +13,7 @@ ghost use lib.ListN.{length, getD, drop};
 ghost use lib.Dec.{ltb};
 ghost use Rattle.memory.specs.Word.{if_then_else_};
 ghost use Rattle.memory.specs.Reading.{each, given, runFrom};
-ghost use Rattle.memory.specs.Address.{isRun};
+ghost use Rattle.memory.specs.Answers.{isRun};
 ghost use Rattle.codes.specs.declared.Source.{Source};
 ghost use Rattle.codes.specs.declared.Pen.{Pen};
 ghost use Rattle.codes.specs.Attribute.{invokes};
@@ -38,25 +39,25 @@ struct Cursor {
 // The codes of a segment with a list, where its words and as many of the list as there are codes stand one after the other in memory.
 pub(crate) fn draw_with_list(
     mem: &[u16],
-    settings: Settings,
-    source: Source,
-    end: usize,
+    settings: CodeSettings,
+    room: Room,
     count: u32,
-    a: u32,
+    p: Pointer,
     pen: Pen,
     words: u32,
     cells: &mut [u32],
 ) -> Drawn
-    requires { ⌜ (end ≤ length (now cells)) × (pen .column ≤ end) × (count ≤ 255) × (words ≤ 4000000000) ⌝ }
-    requires { ⌜ (pen .list .present ≡ true) × (isRun (settings .linear) (length (now mem)) a ((count + 1) / 2) ≡ true) × (isRun (settings .linear) (length (now mem)) (pen .list .next) count ≡ true) ⌝ }
-    ensures { λ r. ⌜ Within end (words + 2 * count) r ⌝ }
-    ensures { λ r. ⌜ drawn r (now (cells .exit)) ≡ runFrom words (now (mem .entry)) (codes settings source end count a (soFar pen (now (cells .entry)))) ⌝ }
+    requires { ⌜ (room .end ≤ length (now cells)) × (pen .column ≤ room .end) × (count ≤ 255) × (words ≤ 4000000000) ⌝ }
+    requires { ⌜ (pen .list .present ≡ true) × (isRun (settings .linear) (length (now mem)) (p .address) ((count + 1) / 2) ≡ true) × (isRun (settings .linear) (length (now mem)) (pen .list .next .address) count ≡ true) ⌝ }
+    ensures { λ r. ⌜ Within (room .end) (words + 2 * count) r ⌝ }
+    ensures { λ r. ⌜ drawn r (now (cells .exit)) ≡ runFrom words (now (mem .entry)) (codes settings (room .source) (room .end) count p (soFar pen (now (cells .entry)))) ⌝ }
 {
-    let at = (a / 2) as usize;
+    let first = p.address;
+    let at = (first / 2) as usize;
     let list = pen.list.next;
-    let begun = cursor_of(settings.hidden, source, end, pen);
-    let pairs = examine_pairs(mem, settings, source, end, count, at, list, begun, cells);
-    let cursor = examine_odd(mem, settings, source, end, count, at, list, pairs, cells);
+    let begun = cursor_of(settings.hidden, room, pen);
+    let pairs = examine_pairs(mem, settings, room, count, at, list, begun, cells);
+    let cursor = examine_odd(mem, settings, room, count, at, list, pairs, cells);
     Drawn::Accepted {
         pen: pen_of(settings.linear, list, cursor),
         words: words + (count + 1) / 2 + cursor.taken as u32,
@@ -66,19 +67,18 @@ pub(crate) fn draw_with_list(
 // Both codes of each word, of the words from number `at` on that `count` codes fill.
 fn examine_pairs(
     mem: &[u16],
-    settings: Settings,
-    source: Source,
-    end: usize,
+    settings: CodeSettings,
+    room: Room,
     count: u32,
     at: usize,
-    list: u32,
+    list: Pointer,
     begun: Cursor,
     cells: &mut [u32],
 ) -> Cursor
-    requires { ⌜ (end ≤ length (now cells)) × (begun .column ≤ end) × (begun .attribute ≡ inForce (settings .hidden) source end (begun .latch)) × (begun .taken ≡ 0) × (count ≤ 255) ⌝ }
-    requires { ⌜ (at + (count + 1) / 2 ≤ length (now mem)) × (isRun (settings .linear) (length (now mem)) list count ≡ true) ⌝ }
-    ensures { λ r. ⌜ (r .column ≤ end) × (r .attribute ≡ inForce (settings .hidden) source end (r .latch)) × (r .taken ≤ 2 * (count / 2)) ⌝ }
-    ensures { λ r. ⌜ ((n : ℕ) → runFrom n (now (mem .entry)) (each (examine settings source end) (codesIn (drop at (now (mem .entry))) count) (soFar (penOf (settings .linear) list begun) (now (cells .entry)))) ≡ runFrom (n + r .taken) (now (mem .entry)) (each (examine settings source end) (codesIn (drop (at + count / 2) (now (mem .entry))) (count - 2 * (count / 2))) (soFar (penOf (settings .linear) list r) (now (cells .exit))))) ⌝ }
+    requires { ⌜ (room .end ≤ length (now cells)) × (begun .column ≤ room .end) × (begun .attribute ≡ inForce (settings .hidden) (room .source) (room .end) (begun .latch)) × (begun .taken ≡ 0) × (count ≤ 255) ⌝ }
+    requires { ⌜ (at + (count + 1) / 2 ≤ length (now mem)) × (isRun (settings .linear) (length (now mem)) (list .address) count ≡ true) ⌝ }
+    ensures { λ r. ⌜ (r .column ≤ room .end) × (r .attribute ≡ inForce (settings .hidden) (room .source) (room .end) (r .latch)) × (r .taken ≤ 2 * (count / 2)) ⌝ }
+    ensures { λ r. ⌜ ((n : ℕ) → runFrom n (now (mem .entry)) (each (examine settings (room .source) (room .end)) (codesIn (drop at (now (mem .entry))) count) (soFar (penOf (settings .linear) list begun) (now (cells .entry)))) ≡ runFrom (n + r .taken) (now (mem .entry)) (each (examine settings (room .source) (room .end)) (codesIn (drop (at + count / 2) (now (mem .entry))) (count - 2 * (count / 2))) (soFar (penOf (settings .linear) list r) (now (cells .exit))))) ⌝ }
 {
     let pairs = (count / 2) as usize;
     let mut cursor = begun;
@@ -86,9 +86,9 @@ fn examine_pairs(
     while i < pairs {
         let w = mem[at + i];
         let first = memory::high_byte(w);
-        cursor = examine_listed(mem, settings, source, end, first, list, cursor, cells);
+        cursor = examine_listed(mem, settings, room, first, list, cursor, cells);
         let second = memory::low_byte(w);
-        cursor = examine_listed(mem, settings, source, end, second, list, cursor, cells);
+        cursor = examine_listed(mem, settings, room, second, list, cursor, cells);
         i += 1;
     }
     cursor
@@ -97,24 +97,23 @@ fn examine_pairs(
 // The last code, where their count is odd.
 fn examine_odd(
     mem: &[u16],
-    settings: Settings,
-    source: Source,
-    end: usize,
+    settings: CodeSettings,
+    room: Room,
     count: u32,
     at: usize,
-    list: u32,
+    list: Pointer,
     cursor: Cursor,
     cells: &mut [u32],
 ) -> Cursor
-    requires { ⌜ (end ≤ length (now cells)) × (cursor .column ≤ end) × (cursor .attribute ≡ inForce (settings .hidden) source end (cursor .latch)) × (cursor .taken ≤ 2 * (count / 2)) × (count ≤ 255) ⌝ }
-    requires { ⌜ (at + (count + 1) / 2 ≤ length (now mem)) × (isRun (settings .linear) (length (now mem)) list count ≡ true) ⌝ }
-    ensures { λ r. ⌜ (r .column ≤ end) × (r .taken ≤ count) ⌝ }
-    ensures { λ r. ⌜ ((n : ℕ) → runFrom (n + cursor .taken) (now (mem .entry)) (each (examine settings source end) (codesIn (drop (at + count / 2) (now (mem .entry))) (count - 2 * (count / 2))) (soFar (penOf (settings .linear) list cursor) (now (cells .entry)))) ≡ given (n + r .taken) (soFar (penOf (settings .linear) list r) (now (cells .exit)))) ⌝ }
+    requires { ⌜ (room .end ≤ length (now cells)) × (cursor .column ≤ room .end) × (cursor .attribute ≡ inForce (settings .hidden) (room .source) (room .end) (cursor .latch)) × (cursor .taken ≤ 2 * (count / 2)) × (count ≤ 255) ⌝ }
+    requires { ⌜ (at + (count + 1) / 2 ≤ length (now mem)) × (isRun (settings .linear) (length (now mem)) (list .address) count ≡ true) ⌝ }
+    ensures { λ r. ⌜ (r .column ≤ room .end) × (r .taken ≤ count) ⌝ }
+    ensures { λ r. ⌜ ((n : ℕ) → runFrom (n + cursor .taken) (now (mem .entry)) (each (examine settings (room .source) (room .end)) (codesIn (drop (at + count / 2) (now (mem .entry))) (count - 2 * (count / 2))) (soFar (penOf (settings .linear) list cursor) (now (cells .entry)))) ≡ given (n + r .taken) (soFar (penOf (settings .linear) list r) (now (cells .exit)))) ⌝ }
 {
     if count % 2 == 1 {
         let w = mem[at + (count / 2) as usize];
         let code = memory::high_byte(w);
-        examine_listed(mem, settings, source, end, code, list, cursor, cells)
+        examine_listed(mem, settings, room, code, list, cursor, cells)
     } else {
         cursor
     }
@@ -123,22 +122,22 @@ fn examine_odd(
 // One code, whose list's next word is there.
 fn examine_listed(
     mem: &[u16],
-    settings: Settings,
-    source: Source,
-    end: usize,
+    settings: CodeSettings,
+    room: Room,
     code: u8,
-    list: u32,
+    list: Pointer,
     cursor: Cursor,
     cells: &mut [u32],
 ) -> Cursor
-    requires { ⌜ (end ≤ length (now cells)) × (cursor .column ≤ end) × (cursor .attribute ≡ inForce (settings .hidden) source end (cursor .latch)) × (list / 2 + cursor .taken < length (now mem)) × (cursor .taken ≤ 255) ⌝ }
-    ensures { λ r. ⌜ (r .column ≤ end) × (r .attribute ≡ inForce (settings .hidden) source end (r .latch)) × (r .taken ≡ cursor .taken + (if invokes (settings .flag) code then 1 else 0)) ⌝ }
-    ensures { λ r. ⌜ soFar (penOf (settings .linear) list r) (now (cells .exit)) ≡ examined settings source end (getD (now (mem .entry)) (list / 2 + cursor .taken) 0) code (soFar (penOf (settings .linear) list cursor) (now (cells .entry))) ⌝ }
+    requires { ⌜ (room .end ≤ length (now cells)) × (cursor .column ≤ room .end) × (cursor .attribute ≡ inForce (settings .hidden) (room .source) (room .end) (cursor .latch)) × (list .address / 2 + cursor .taken < length (now mem)) × (cursor .taken ≤ 255) ⌝ }
+    ensures { λ r. ⌜ (r .column ≤ room .end) × (r .attribute ≡ inForce (settings .hidden) (room .source) (room .end) (r .latch)) × (r .taken ≡ cursor .taken + (if invokes (settings .flag) code then 1 else 0)) ⌝ }
+    ensures { λ r. ⌜ soFar (penOf (settings .linear) list r) (now (cells .exit)) ≡ examined settings (room .source) (room .end) (getD (now (mem .entry)) (list .address / 2 + cursor .taken) 0) code (soFar (penOf (settings .linear) list cursor) (now (cells .entry))) ⌝ }
 {
     if attribute::invokes(settings.flag, code) {
-        let at = (list / 2) as usize + cursor.taken;
+        let first = list.address;
+        let at = (first / 2) as usize + cursor.taken;
         let w = mem[at];
-        let own = in_force(settings.hidden, source, end, w);
+        let own = in_force(settings.hidden, room, w);
         let column = put_code(own, code, cursor.column, cells);
         with_word(w, own, column, cursor)
     } else {
@@ -180,10 +179,10 @@ fn with_word(w: u16, own: InForce, column: usize, cursor: Cursor) -> Cursor
 }
 
 // The cursor where a segment begins, no word of its list taken.
-fn cursor_of(hidden: bool, source: Source, end: usize, pen: Pen) -> Cursor
-    ensures { λ r. ⌜ r ≡ cursorOf hidden source end pen ⌝ }
+fn cursor_of(hidden: bool, room: Room, pen: Pen) -> Cursor
+    ensures { λ r. ⌜ r ≡ cursorOf hidden (room .source) (room .end) pen ⌝ }
 {
-    let attribute = in_force(hidden, source, end, pen.latch);
+    let attribute = in_force(hidden, room, pen.latch);
     Cursor {
         column: pen.column,
         latch: pen.latch,
@@ -193,14 +192,14 @@ fn cursor_of(hidden: bool, source: Source, end: usize, pen: Pen) -> Cursor
     }
 }
 
-// The pen where a segment ends, whose list begins at the address `list`.
-fn pen_of(linear: bool, list: u32, cursor: Cursor) -> Pen
+// The pen where a segment ends, whose list begins at `list`.
+fn pen_of(linear: bool, list: Pointer, cursor: Cursor) -> Pen
     requires { ⌜ cursor .taken ≤ 4000000000 ⌝ }
     ensures { λ r. ⌜ r ≡ penOf linear list cursor ⌝ }
 {
     let list = AttributeList {
         present: true,
-        next: memory::words_ahead(linear, cursor.taken as u32, list),
+        next: memory::further(linear, cursor.taken as u32, list),
     };
     Pen {
         column: cursor.column,
@@ -210,12 +209,16 @@ fn pen_of(linear: bool, list: u32, cursor: Cursor) -> Pen
     }
 }
 
-fn in_force(hidden: bool, source: Source, end: usize, attribute: u16) -> InForce
-    ensures { λ r. ⌜ r ≡ inForce hidden source end attribute ⌝ }
+fn in_force(hidden: bool, room: Room, attribute: u16) -> InForce
+    ensures { λ r. ⌜ r ≡ inForce hidden (room .source) (room .end) attribute ⌝ }
 {
+    let source = room.source;
     let bits = attribute::cell(source, attribute, 0);
     if attribute::is_shown(hidden, attribute) {
-        InForce { bits, limit: end }
+        InForce {
+            bits,
+            limit: room.end,
+        }
     } else {
         InForce { bits, limit: 0 }
     }

@@ -1,16 +1,18 @@
 // The codes of a segment without a list: all have the latch.
+use codes::CodeSettings;
 use codes::Drawn;
 use codes::Pen;
+use codes::Room;
 use codes::Source;
 use codes::attribute;
 use codes::pens;
-use settings::Settings;
+use memory::Pointer;
 ghost use mathlib.Core.Path.{_≡_};
 ghost use mathlib.Core.Bool.{Bool, true, false, _||_, not};
 ghost use Prim.Native.Nat.{ℕ, _+_, _-_, _*_, _/_, _≤_, min};
 ghost use lib.ListN.{length, drop};
 ghost use Rattle.memory.specs.Reading.{runFrom};
-ghost use Rattle.memory.specs.Address.{isRun};
+ghost use Rattle.memory.specs.Answers.{isRun};
 ghost use Rattle.codes.specs.Attribute.{ignores};
 ghost use Rattle.codes.specs.Codes.{movedTo, codes};
 ghost use Rattle.codes.specs.Answers.{soFar, drawn, Within};
@@ -19,32 +21,23 @@ ghost use Rattle.runs.specs.Runs.{codesIn, characters};
 // The codes of a segment without a list, where its words stand one after the other in memory.
 pub(crate) fn draw_without_list(
     mem: &[u16],
-    settings: Settings,
-    source: Source,
-    end: usize,
+    settings: CodeSettings,
+    room: Room,
     count: u32,
-    a: u32,
+    p: Pointer,
     pen: Pen,
     words: u32,
     cells: &mut [u32],
 ) -> Drawn
-    requires { ⌜ (end ≤ length (now cells)) × (pen .column ≤ end) × (count ≤ 255) × (words ≤ 4000000000) ⌝ }
-    requires { ⌜ (pen .list .present ≡ false) × (isRun (settings .linear) (length (now mem)) a ((count + 1) / 2) ≡ true) ⌝ }
-    ensures { λ r. ⌜ Within end (words + 2 * count) r ⌝ }
-    ensures { λ r. ⌜ drawn r (now (cells .exit)) ≡ runFrom words (now (mem .entry)) (codes settings source end count a (soFar pen (now (cells .entry)))) ⌝ }
+    requires { ⌜ (room .end ≤ length (now cells)) × (pen .column ≤ room .end) × (count ≤ 255) × (words ≤ 4000000000) ⌝ }
+    requires { ⌜ (pen .list .present ≡ false) × (isRun (settings .linear) (length (now mem)) (p .address) ((count + 1) / 2) ≡ true) ⌝ }
+    ensures { λ r. ⌜ Within (room .end) (words + 2 * count) r ⌝ }
+    ensures { λ r. ⌜ drawn r (now (cells .exit)) ≡ runFrom words (now (mem .entry)) (codes settings (room .source) (room .end) count p (soFar pen (now (cells .entry)))) ⌝ }
 {
-    let at = (a / 2) as usize;
+    let first = p.address;
+    let at = (first / 2) as usize;
     Drawn::Accepted {
-        pen: draw_characters(
-            mem,
-            settings.hidden,
-            source,
-            end,
-            count as usize,
-            at,
-            pen,
-            cells,
-        ),
+        pen: draw_characters(mem, settings.hidden, room, count as usize, at, pen, cells),
         words: words + (count + 1) / 2,
     }
 }
@@ -53,25 +46,26 @@ pub(crate) fn draw_without_list(
 fn draw_characters(
     mem: &[u16],
     hidden: bool,
-    source: Source,
-    end: usize,
+    room: Room,
     count: usize,
     at: usize,
     pen: Pen,
     cells: &mut [u32],
 ) -> Pen
-    requires { ⌜ (end ≤ length (now cells)) × (pen .column ≤ end) × (count ≤ 255) × (at + (count + 1) / 2 ≤ length (now mem)) ⌝ }
-    ensures { λ r. ⌜ r .column ≤ end ⌝ }
-    ensures { λ r. ⌜ soFar r (now (cells .exit)) ≡ characters hidden source end (pen .latch) (codesIn (drop at (now (mem .entry))) count) (soFar pen (now (cells .entry))) ⌝ }
+    requires { ⌜ (room .end ≤ length (now cells)) × (pen .column ≤ room .end) × (count ≤ 255) × (at + (count + 1) / 2 ≤ length (now mem)) ⌝ }
+    ensures { λ r. ⌜ r .column ≤ room .end ⌝ }
+    ensures { λ r. ⌜ soFar r (now (cells .exit)) ≡ characters hidden (room .source) (room .end) (pen .latch) (codesIn (drop at (now (mem .entry))) count) (soFar pen (now (cells .entry))) ⌝ }
 {
     if !attribute::is_shown(hidden, pen.latch) {
         return pen;
     }
+    let end = room.end;
     let pairs = lesser(count, end - pen.column) / 2;
+    let source = room.source;
     let after = draw_pairs(mem, source, at, pairs, pen, cells);
     if pairs * 2 < count {
         let code = memory::high_byte(mem[at + pairs]);
-        pens::put_character(hidden, source, end, pen.latch, code, after, cells)
+        pens::put_character(hidden, room, pen.latch, code, after, cells)
     } else {
         after
     }

@@ -1,5 +1,5 @@
 use mathlib.Core.Path.{_≡_, refl, sym, _∙_}
-use Prim.Native.Nat.{_≤_, _+_, _-_, _*_}
+use Prim.Native.Nat.{_≤_, _+_, _-_, _*_, _<_}
 use native.Mathlib.Nat.{sub-zero, sub-add-eq}
 use native.Mathlib.Omega.{arith}
 use lib.ListN.{length, drop}
@@ -44,13 +44,18 @@ returns c =
       sym (l .inv .5
           ∙ side-refused (l .read) (a .mem .now) (a .settings .linear) (a .settings .hidden) (a .side) (l .at) (a .count - l .i) (l .i) (a .segments .now)
           (segment (a .settings) (a .fill) (a .source)) (soFar (l .current) (l .cells)) (omega arith)
-          (sym (rw (c .before .number .given .1, c .before .before .before .before .before .before .before .on-side .ensures, c .before .before .before .before .before .before .before .before .width .ensures, c .before .before .before .before .before .before .before .before .before .segment-at .ensures) at (c .before .before .before .before .before .draw-chosen .ensures .1)))),
+          (sym (rw (c .before .fault .given .1, c .before .before .before .before .before .before .before .on-side .ensures, c .before .before .before .before .before .before .before .before .width .ensures, c .before .before .before .before .before .before .before .before .before .segment-at .ensures) at (c .before .before .before .before .before .draw-chosen .ensures .1)))),
     )
 
 add-at : tie.Need-add-at Inv-loop μ-loop
 add-at c =
     let g = c .before .before .before .before .before .before .before .before .before .segment-at in
     omega (arith, c .before .before .before .before .before .before .before .before .before .before .before .loop .inv .0, c .before .before .before .before .before .before .before .before .before .before .before .loop .inv .2, c .before .before .before .before .before .before .before .before .before .before .before .before .before .before .fits .count, width-byte (c .before .before .before .before .before .before .before .before .before .before .before .before .before .before .args .settings .hidden) (g .result) (g .ok .1 .1 .1 .1 .0 .1) (g .ok .1 .1 .1 .1 .1 .0 .1), c .before .before .before .before .before .before .before .before .width .ensures)
+
+add-i : tie.Need-add-i Inv-loop μ-loop
+add-i c =
+    let k : c .before .before .before .before .before .before .before .before .before .before .before .loop .i + 1 < 256 = omega (arith, c .before .before .before .before .before .before .before .before .before .before .loop-test .taken, c .before .before .before .before .before .before .before .before .before .before .before .before .before .before .fits .count) in
+    search (needs, k)
 
 loop-again : tie.Need-loop-again Inv-loop μ-loop
 loop-again c =
@@ -101,7 +106,7 @@ draw-side-spec =
     returns
     (λ c. search needs)
     add-at
-    (λ c. search needs)
+    add-i
     (λ c. search needs)
     loop-again
     (λ c. search needs)

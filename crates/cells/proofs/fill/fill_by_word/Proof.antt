@@ -16,7 +16,7 @@ fill-run-requires c κs = rw (c .before .take-word .ensures) (omega arith, omega
 returns : tie.Need-returns
 unfolding taking
 returns c =
-    let a = c .before .before .before .before .before .before .before .before .before .before .before .before .before .args in
+    let a = c .before .before .before .before .before .before .before .before .before .before .before .before .before .before .args in
     let r = c .before .before .fill-run .ensures in (
       (r .0, omega arith),
       ap (given (a .words + 1)) (rw (c .before .before .before .before .take-word .ensures) at (r .1))
@@ -26,7 +26,7 @@ returns c =
 
 returns-2 : tie.Need-returns-2
 returns-2 c =
-    let a = c .before .before .before .before .before .before .before .before .args in (
+    let a = c .before .before .before .before .before .before .before .before .before .args in (
       (omega arith, omega arith),
       sym (fill-unlatched (a .words) (a .mem .now) (a .settings) (a .fill) (a .end) (soFar (a .pen) (a .cells .now)) _
           (sym (c .before .before .before .before .before .word-at .ensures) ∙ c .before .before .before .w .given .1) (sym (c .before .bit-15 .ensures) ∙ c .if1 .left)),
@@ -34,10 +34,10 @@ returns-2 c =
 
 returns-3 : tie.Need-returns-3
 returns-3 c =
-    let a = c .before .before .before .before .before .args in (
+    let a = c .before .before .before .before .before .before .before .args in (
       (omega arith, omega arith),
-      sym (fill-absent (a .words) (a .mem .now) (a .settings) (a .fill) (a .end) (soFar (a .pen) (a .cells .now))
-          (sym (c .before .before .word-at .ensures) ∙ c .enum-told .given .1)),
+      rw (c .missing .ensures) (sym (fill-absent (a .words) (a .mem .now) (a .settings) (a .fill) (a .end) (soFar (a .pen) (a .cells .now))
+          (sym (c .before .before .before .word-at .ensures) ∙ c .before .enum-told .given .1))),
     )
 
 pub fill-by-word-spec : {M : Type 1} → statement M
@@ -51,6 +51,7 @@ fill-by-word-spec =
     fill-run-requires
     (λ c. search needs)
     (λ c. search needs)
+    (λ c κs. search needs)
     (λ c. search needs)
     returns
     returns-2

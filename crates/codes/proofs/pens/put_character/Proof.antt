@@ -10,12 +10,12 @@ use Rattle.codes.proofs.pens.put_character.Tie as tie
 slice-write-cells : tie.Need-slice-write-cells
 slice-write-cells c =
     let a = c .before .before .before .before .args in
-    omega (arith, ltb-true (a .pen .column) (a .end) (both (c .before .before .is-shown .result) (ltb (a .pen .column) (a .end)) (c .before .if1 .taken) .1))
+    omega (arith, ltb-true (a .pen .column) (a .room .end) (both (c .before .before .is-shown .result) (ltb (a .pen .column) (a .room .end)) (c .before .if1 .taken) .1))
 
 returns : tie.Need-returns
 returns c =
     let a = c .before .before .before .before .before .args in
-    let k = ltb-true (a .pen .column) (a .end) (both (c .before .before .before .is-shown .result) (ltb (a .pen .column) (a .end)) (c .before .before .if1 .taken) .1) in
+    let k = ltb-true (a .pen .column) (a .room .end) (both (c .before .before .before .is-shown .result) (ltb (a .pen .column) (a .room .end)) (c .before .before .if1 .taken) .1) in
     rw (c .moved-to .ensures, c .before .cell .ensures)
     (omega arith, character-put _ _ _ _ _ _ _ (rw (c .before .before .before .is-shown .ensures) at (c .before .before .if1 .taken)) (omega arith))
 

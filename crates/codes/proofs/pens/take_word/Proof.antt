@@ -6,11 +6,11 @@ use Rattle.codes.proofs.pens.take_word.Tie as tie
 
 returns : tie.Need-returns
 unfolding taking
-returns c = rw (sym (c .before .bit-15 .ensures) ∙ c .if1 .taken, c .before .before .next-word .ensures)
+returns c = rw (sym (c .before .bit-15 .ensures) ∙ c .if1 .taken, c .before .before .onward .ensures)
 
 returns-2 : tie.Need-returns-2
 unfolding taking
-returns-2 c = rw (sym (c .before .bit-15 .ensures) ∙ c .if1 .left, c .before .before .next-word .ensures)
+returns-2 c = rw (sym (c .before .bit-15 .ensures) ∙ c .if1 .left, c .before .before .onward .ensures)
 
 pub take-word-spec : {M : Type 1} → statement M
 take-word-spec =

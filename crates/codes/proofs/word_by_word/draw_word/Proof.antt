@@ -17,13 +17,13 @@ abbrev bytes : ℕ → List ℕ
 bytes w = high w ∷ low w ∷ []
 
 abbrev Inv-loop : tie.InvT-loop
-Inv-loop mem settings source end w n words cells₀ i₀ current₀ read₀ cells i current read =
-    (i ≤ n) × (length cells ≡ length cells₀) × (current .column ≤ end) × (read ≤ words + i)
-    × (runFrom words mem (wordCodes settings source end n w (soFar current₀ cells₀))
-    ≡ runFrom read mem (each (examine settings source end) (take (n - i) (drop i (bytes w))) (soFar current cells)))
+Inv-loop mem settings room w n words cells₀ i₀ current₀ read₀ cells i current read =
+    (i ≤ n) × (length cells ≡ length cells₀) × (current .column ≤ room .end) × (read ≤ words + i)
+    × (runFrom words mem (wordCodes settings (room .source) (room .end) n w (soFar current₀ cells₀))
+    ≡ runFrom read mem (each (examine settings (room .source) (room .end)) (take (n - i) (drop i (bytes w))) (soFar current cells)))
 
 abbrev μ-loop : tie.MeasureT-loop
-μ-loop mem settings source end w n words cells₀ i₀ current₀ read₀ cells i current read = n - i
+μ-loop mem settings room w n words cells₀ i₀ current₀ read₀ cells i current read = n - i
 
 loop-holds : tie.Need-loop-holds Inv-loop μ-loop
 unfolding wordCodes
@@ -35,8 +35,8 @@ returns c =
     let l = c .before .before .before .before .before .before .before .before .before .loop in (
       (omega arith, omega arith),
       sym (l .inv .4
-          ∙ bytes-refused (l .read) (a .mem .now) (a .settings) (a .source) (a .end) (bytes (a .w)) (a .n) (l .i) (soFar (l .current) (l .cells))
-          (c .before .before .before .before .before .before .before .before .loop-test .taken) (c .before .before .before .before .before .before .before .before .before .before .before .before .pre .2) (sym (rw (c .before .number .given .1, c .before .before .before .before .before .before .before .code-at .ensures) at (c .before .before .before .before .before .examine-code .ensures .1)))),
+          ∙ bytes-refused (l .read) (a .mem .now) (a .settings) (a .room .source) (a .room .end) (bytes (a .w)) (a .n) (l .i) (soFar (l .current) (l .cells))
+          (c .before .before .before .before .before .before .before .before .loop-test .taken) (c .before .before .before .before .before .before .before .before .before .before .before .before .pre .2) (sym (rw (c .before .fault .given .1, c .before .before .before .before .before .before .before .code-at .ensures) at (c .before .before .before .before .before .examine-code .ensures .1)))),
     )
 
 loop-again : tie.Need-loop-again Inv-loop μ-loop
@@ -47,11 +47,11 @@ loop-again c =
     let e = c .before .before .before .before .before .examine-code in
     let h = rw (c .before .after .given .1) at (e .ensures .0) in (
       omega arith,
-      e .kept .1 .1 .1 .1 .1 .1 .1 .0 ∙ l .inv .1,
+      e .kept .1 .1 .1 .1 .1 .1 .0 ∙ l .inv .1,
       h .0,
       omega (arith, h .1, l .inv .3),
       l .inv .4
-          ∙ bytes-more (l .read) (a .mem .now) (a .settings) (a .source) (a .end) (bytes (a .w)) (a .n) (l .i) (soFar (l .current) (l .cells))
+          ∙ bytes-more (l .read) (a .mem .now) (a .settings) (a .room .source) (a .room .end) (bytes (a .w)) (a .n) (l .i) (soFar (l .current) (l .cells))
           test (c .before .before .before .before .before .before .before .before .before .before .before .before .pre .2) (sym (rw (c .before .after .given .1, c .before .before .before .before .before .before .before .code-at .ensures) at (e .ensures .1))),
     )
 
@@ -61,7 +61,7 @@ returns-2 c =
     let l = c .before .loop in (
       (l .inv .2, omega arith),
       sym (l .inv .4
-          ∙ bytes-none (l .read) (a .mem .now) (a .settings) (a .source) (a .end) (bytes (a .w)) (a .n) (l .i) (soFar (l .current) (l .cells)) (omega arith)),
+          ∙ bytes-none (l .read) (a .mem .now) (a .settings) (a .room .source) (a .room .end) (bytes (a .w)) (a .n) (l .i) (soFar (l .current) (l .cells)) (omega arith)),
     )
 
 pub draw-word-spec : {M : Type 1} → statement M

@@ -11,24 +11,24 @@ use Rattle.codes.proofs.word_by_word.draw_word_by_word.Statement.{state
 use Rattle.codes.proofs.word_by_word.draw_word_by_word.Tie as tie
 
 abbrev Inv-loop : tie.InvT-loop
-Inv-loop mem settings source end count a words cells₀ left₀ at₀ current₀ read₀ cells left at current read =
-    (length cells ≡ length cells₀) × (current .column ≤ end) × (read + 2 * left ≤ words + 2 * count)
-    × (runFrom words mem (codes settings source end count a (soFar current₀ cells₀)) ≡ runFrom read mem (codes settings source end left at (soFar current cells)))
+Inv-loop mem settings room count words cells₀ left₀ at₀ current₀ read₀ cells left at current read =
+    (length cells ≡ length cells₀) × (current .column ≤ room .end) × (read + 2 * left ≤ words + 2 * count)
+    × (runFrom words mem (codes settings (room .source) (room .end) count at₀ (soFar current₀ cells₀)) ≡ runFrom read mem (codes settings (room .source) (room .end) left at (soFar current cells)))
 
 abbrev μ-loop : tie.MeasureT-loop
-μ-loop mem settings source end count a words cells₀ left₀ at₀ current₀ read₀ cells left at current read = left
+μ-loop mem settings room count words cells₀ left₀ at₀ current₀ read₀ cells left at current read = left
 
 loop-holds : tie.Need-loop-holds Inv-loop μ-loop
 loop-holds c = (refl, c .before .before .pre .1, omega arith, refl)
 
 returns : tie.Need-returns Inv-loop μ-loop
 returns c =
-    let a = c .before .before .before .before .before .before .before .args in
-    let l = c .before .before .before .before .loop in (
+    let a = c .before .before .before .before .before .before .before .before .args in
+    let l = c .before .before .before .before .before .loop in (
       (omega arith, omega arith),
-      sym (l .inv .3
-          ∙ codes-absent (l .read) (a .mem .now) (a .settings) (a .source) (a .end) (l .at) (soFar (l .current) (l .cells)) (l .left) (c .before .before .before .loop-test .taken)
-          (sym (c .before .before .word-at .ensures) ∙ c .enum-told .given .1)),
+      rw (c .missing .ensures) (sym (l .inv .3
+          ∙ codes-absent (l .read) (a .mem .now) (a .settings) (a .room .source) (a .room .end) (l .at) (soFar (l .current) (l .cells)) (l .left) (c .before .before .before .before .loop-test .taken)
+          (sym (c .before .before .before .word-at .ensures) ∙ c .before .enum-told .given .1))),
     )
 
 draw-word-requires : tie.Need-draw-word-requires Inv-loop μ-loop
@@ -42,9 +42,9 @@ returns-2 c =
     let l = c .before .before .before .before .before .before .before .before .before .before .before .before .before .loop in (
       (omega arith, omega arith),
       sym (l .inv .3
-          ∙ codes-refused (l .read) (a .mem .now) (a .settings) (a .source) (a .end) (l .at) (soFar (l .current) (l .cells)) _
+          ∙ codes-refused (l .read) (a .mem .now) (a .settings) (a .room .source) (a .room .end) (l .at) (soFar (l .current) (l .cells)) _
           (sym (c .before .before .before .before .before .before .before .before .before .before .before .word-at .ensures) ∙ c .before .before .before .before .before .before .before .before .before .w .given .1) (l .left) (c .before .before .before .before .before .before .before .before .before .before .before .before .loop-test .taken)
-          (sym (rw (c .before .number .given .1, c .before .before .before .before .before .before .before .codes-in-word .ensures) at (c .before .before .before .before .before .draw-word .ensures .1)))),
+          (sym (rw (c .before .fault .given .1, c .before .before .before .before .before .before .before .codes-in-word .ensures) at (c .before .before .before .before .before .draw-word .ensures .1)))),
     )
 
 sub-left : tie.Need-sub-left Inv-loop μ-loop
@@ -60,14 +60,14 @@ loop-again c =
     let test = c .before .before .before .before .before .before .before .before .before .before .before .before .before .loop-test .taken in
     let e = c .before .before .before .before .before .before .draw-word in
     let h = rw (c .before .before .after .given .1, c .before .before .before .before .before .before .before .before .codes-in-word .ensures) at (e .ensures .0) in (
-      e .kept .1 .1 .1 .1 .1 .1 .1 .1 .0 ∙ l .inv .0,
+      e .kept .1 .1 .1 .1 .1 .1 .1 .0 ∙ l .inv .0,
       h .0,
       omega (arith, h .1, l .inv .2, c .before .before .before .before .before .before .before .before .codes-in-word .ensures),
       l .inv .3
-          ∙ codes-more (l .read) (a .mem .now) (a .settings) (a .source) (a .end) (l .at) (soFar (l .current) (l .cells)) _
+          ∙ codes-more (l .read) (a .mem .now) (a .settings) (a .room .source) (a .room .end) (l .at) (soFar (l .current) (l .cells)) _
           (sym (c .before .before .before .before .before .before .before .before .before .before .before .before .word-at .ensures) ∙ c .before .before .before .before .before .before .before .before .before .before .w .given .1) (l .left) test
           (sym (rw (c .before .before .after .given .1, c .before .before .before .before .before .before .before .before .codes-in-word .ensures) at (e .ensures .1)))
-          ∙ rw (c .next-word .ensures, c .before .before .before .before .before .before .before .before .codes-in-word .ensures),
+          ∙ rw (c .onward .ensures, c .before .before .before .before .before .before .before .before .codes-in-word .ensures),
     )
 
 returns-3 : tie.Need-returns-3 Inv-loop μ-loop
@@ -75,7 +75,7 @@ returns-3 c =
     let a = c .before .before .before .before .args in
     let l = c .before .loop in (
       (l .inv .1, omega arith),
-      sym (l .inv .3 ∙ codes-none (l .read) (a .mem .now) (a .settings) (a .source) (a .end) (l .at) (soFar (l .current) (l .cells)) (l .left) (omega arith)),
+      sym (l .inv .3 ∙ codes-none (l .read) (a .mem .now) (a .settings) (a .room .source) (a .room .end) (l .at) (soFar (l .current) (l .cells)) (l .left) (omega arith)),
     )
 
 pub draw-word-by-word-spec : {M : Type 1} → statement M
@@ -88,6 +88,7 @@ draw-word-by-word-spec =
     (λ c κs. search needs)
     (λ c. search needs)
     (λ c. search needs)
+    (λ c κs. search needs)
     (λ c. search needs)
     returns
     (λ c κs. search needs)

@@ -19,27 +19,27 @@ returns-3 c =
     let r = c .before .before .put-character2 .ensures in (
       (r .0, omega arith),
       ap (given (a .words)) (r .1)
-          ∙ sym (examine-latch (a .words) (a .mem .now) (a .settings) (a .source) (a .end) (a .code) (soFar (a .pen) (a .cells .now))
+          ∙ sym (examine-latch (a .words) (a .mem .now) (a .settings) (a .room .source) (a .room .end) (a .code) (soFar (a .pen) (a .cells .now))
           (rw (c .before .before .before .before .before .before .invokes .ensures) at (c .before .before .before .before .if1 .left))),
     )
 
 returns : tie.Need-returns
 unfolding taking
 returns c =
-    let a = c .before .before .before .before .before .before .before .before .before .before .before .before .before .before .args in
+    let a = c .before .before .before .before .before .before .before .before .before .before .before .before .before .before .before .args in
     let r = c .before .before .put-character .ensures in (
       (r .0, omega arith),
       ap (given (a .words + 1)) (rw (c .before .before .before .before .take-word .ensures) at (r .1))
-          ∙ sym (examine-word (a .words) (a .mem .now) (a .settings) (a .source) (a .end) (a .code) (soFar (a .pen) (a .cells .now)) _
-          (rw (c .before .before .before .before .before .before .before .before .before .before .before .invokes .ensures) at (c .before .before .before .before .before .before .before .before .before .if1 .taken)) (sym (c .before .before .before .before .before .before .before .before .word-at .ensures) ∙ c .before .before .before .before .before .before .w .given .1)),
+          ∙ sym (examine-word (a .words) (a .mem .now) (a .settings) (a .room .source) (a .room .end) (a .code) (soFar (a .pen) (a .cells .now)) _
+          (rw (c .before .before .before .before .before .before .before .before .before .before .before .before .invokes .ensures) at (c .before .before .before .before .before .before .before .before .before .before .if1 .taken)) (sym (c .before .before .before .before .before .before .before .before .word-at .ensures) ∙ c .before .before .before .before .before .before .w .given .1)),
     )
 
 returns-2 : tie.Need-returns-2
 returns-2 c =
-    let a = c .before .before .before .before .before .before .before .before .args in (
+    let a = c .before .before .before .before .before .before .before .before .before .before .args in (
       (omega arith, omega arith),
-      sym (examine-absent (a .words) (a .mem .now) (a .settings) (a .source) (a .end) (a .code) (soFar (a .pen) (a .cells .now))
-          (rw (c .before .before .before .before .before .invokes .ensures) at (c .before .before .before .if1 .taken)) (sym (c .before .before .word-at .ensures) ∙ c .enum-told .given .1)),
+      rw (c .missing .ensures) (sym (examine-absent (a .words) (a .mem .now) (a .settings) (a .room .source) (a .room .end) (a .code) (soFar (a .pen) (a .cells .now))
+          (rw (c .before .before .before .before .before .before .before .invokes .ensures) at (c .before .before .before .before .before .if1 .taken)) (sym (c .before .before .before .word-at .ensures) ∙ c .before .enum-told .given .1))),
     )
 
 pub examine-code-spec : {M : Type 1} → statement M
@@ -53,6 +53,7 @@ examine-code-spec =
     put-character-requires
     (λ c. search needs)
     (λ c. search needs)
+    (λ c κs. search needs)
     (λ c κs. search needs)
     (λ c. search needs)
     returns

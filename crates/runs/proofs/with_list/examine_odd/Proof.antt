@@ -20,8 +20,8 @@ examine-listed-requires : tie.Need-examine-listed-requires
 examine-listed-requires c κs =
     let a = c .before .before .before .before .before .before .args in
     let pre = c .before .before .before .before .before .before .pre in
-    let room = run-ends (length (a .mem .now)) (a .list) (a .count) (a .settings .linear) (pre .1 .1) in
-    (pre .0 .0, pre .0 .1, pre .0 .2, omega (arith, room, pre .0 .3, c .before .before .before .if1 .taken), omega (arith, pre .0 .3, pre .0 .4))
+    let ends = run-ends (length (a .mem .now)) (a .list .address) (a .count) (a .settings .linear) (pre .1 .1) in
+    (pre .0 .0, pre .0 .1, pre .0 .2, omega (arith, ends, pre .0 .3, c .before .before .before .if1 .taken), omega (arith, pre .0 .3, pre .0 .4))
 
 returns : tie.Need-returns
 unfolding each
@@ -35,9 +35,9 @@ returns c =
     let d = soFar (penOf (a .settings .linear) (a .list) (a .cursor)) (a .cells .now) in
     let one = one-most (invokes (a .settings .flag) (c .before .before .before .before .high-byte .result)) in (
       (e .ensures .0 .0, omega (arith, one, e .ensures .0 .2, pre .0 .3, odd)),
-      λ n. ap (λ (cs : List ℕ). runFrom (n + a .cursor .taken) m (each (examine (a .settings) (a .source) (a .end)) cs d))
+      λ n. ap (λ (cs : List ℕ). runFrom (n + a .cursor .taken) m (each (examine (a .settings) (a .room .source) (a .room .end)) cs d))
           (codes-odd m (a .at) (a .count / 2) (a .count) (omega (arith, pre .1 .0, odd)) (omega (arith, odd)))
-          ∙ listed-step m (a .settings) (a .source) (a .end) n (a .list) (a .count) (high _) [] (a .cursor) (e .result) (a .cells .now) _ (pre .1 .1) (omega (arith, pre .0 .3, odd))
+          ∙ listed-step m (a .settings) (a .room .source) (a .room .end) n (a .list) (a .count) (high _) [] (a .cursor) (e .result) (a .cells .now) _ (pre .1 .1) (omega (arith, pre .0 .3, odd))
           (rw code at (e .ensures .0 .2)) (rw code at (e .ensures .1))
           ∙ run-done _ _ _,
     )

@@ -16,13 +16,13 @@ use Rattle.runs.proofs.with_list.examine_pairs.Statement.{statement}
 use Rattle.runs.proofs.with_list.examine_pairs.Tie as tie
 
 abbrev Inv-loop : tie.InvT-loop
-Inv-loop mem settings source end count at list cells₀ pairs cursor₀ i₀ cells cursor i =
-    (i ≤ pairs) × (length cells ≡ length cells₀) × (cursor .column ≤ end) × (cursor .attribute ≡ inForce (settings .hidden) source end (cursor .latch)) × (cursor .taken ≤ 2 * i)
-    × ((n : ℕ) → runFrom n mem (each (examine settings source end) (codesIn (drop at mem) count) (soFar (penOf (settings .linear) list cursor₀) cells₀))
-    ≡ runFrom (n + cursor .taken) mem (each (examine settings source end) (codesIn (drop (at + i) mem) (count - 2 * i)) (soFar (penOf (settings .linear) list cursor) cells)))
+Inv-loop mem settings room count at list cells₀ pairs cursor₀ i₀ cells cursor i =
+    (i ≤ pairs) × (length cells ≡ length cells₀) × (cursor .column ≤ room .end) × (cursor .attribute ≡ inForce (settings .hidden) (room .source) (room .end) (cursor .latch)) × (cursor .taken ≤ 2 * i)
+    × ((n : ℕ) → runFrom n mem (each (examine settings (room .source) (room .end)) (codesIn (drop at mem) count) (soFar (penOf (settings .linear) list cursor₀) cells₀))
+    ≡ runFrom (n + cursor .taken) mem (each (examine settings (room .source) (room .end)) (codesIn (drop (at + i) mem) (count - 2 * i)) (soFar (penOf (settings .linear) list cursor) cells)))
 
 abbrev μ-loop : tie.MeasureT-loop
-μ-loop mem settings source end count at list cells₀ pairs cursor₀ i₀ cells cursor i = pairs - i
+μ-loop mem settings room count at list cells₀ pairs cursor₀ i₀ cells cursor i = pairs - i
 
 loop-holds : tie.Need-loop-holds Inv-loop μ-loop
 loop-holds c =
@@ -37,7 +37,7 @@ loop-holds c =
       pre .0 .1,
       pre .0 .2,
       omega (arith, pre .0 .3),
-      λ n. ap₂ (λ (i : ℕ) (cs : List ℕ). runFrom i (a .mem .now) (each (examine (a .settings) (a .source) (a .end)) cs d)) (omega (arith, pre .0 .3)) all,
+      λ n. ap₂ (λ (i : ℕ) (cs : List ℕ). runFrom i (a .mem .now) (each (examine (a .settings) (a .room .source) (a .room .end)) cs d)) (omega (arith, pre .0 .3)) all,
     )
 
 add-w : tie.Need-add-w Inv-loop μ-loop
@@ -54,8 +54,8 @@ examine-listed-requires c κs =
     let a = c .before .before .before .before .before .before .before .args in
     let pre = c .before .before .before .before .before .before .before .pre in
     let l = c .before .before .before .before .loop in
-    let room = run-ends (length (a .mem .now)) (a .list) (a .count) (a .settings .linear) (pre .1 .1) in
-    (omega (arith, l .inv .1, pre .0 .0), l .inv .2, l .inv .3, omega (arith, room, l .inv .4), omega (arith, l .inv .4, pre .0 .4))
+    let ends = run-ends (length (a .mem .now)) (a .list .address) (a .count) (a .settings .linear) (pre .1 .1) in
+    (omega (arith, l .inv .1, pre .0 .0), l .inv .2, l .inv .3, omega (arith, ends, l .inv .4), omega (arith, l .inv .4, pre .0 .4))
 
 examine-listed-requires-2 : tie.Need-examine-listed-requires-2 Inv-loop μ-loop
 examine-listed-requires-2 c κs =
@@ -64,8 +64,8 @@ examine-listed-requires-2 c κs =
     let l = c .before .before .before .before .before .before .before .before .before .loop in
     let e = c .before .before .before .before .examine-listed in
     let one = one-most (invokes (a .settings .flag) (c .before .before .before .before .before .before .high-byte .result)) in
-    let room = run-ends (length (a .mem .now)) (a .list) (a .count) (a .settings .linear) (pre .1 .1) in
-    (omega (arith, e .kept .1 .1 .1 .1 .1 .1 .1 .0, l .inv .1, pre .0 .0), e .ensures .0 .0, e .ensures .0 .1, omega (arith, room, one, e .ensures .0 .2, l .inv .4), omega (arith, one, e .ensures .0 .2, l .inv .4, pre .0 .4))
+    let ends = run-ends (length (a .mem .now)) (a .list .address) (a .count) (a .settings .linear) (pre .1 .1) in
+    (omega (arith, e .kept .1 .1 .1 .1 .1 .1 .0, l .inv .1, pre .0 .0), e .ensures .0 .0, e .ensures .0 .1, omega (arith, ends, one, e .ensures .0 .2, l .inv .4), omega (arith, one, e .ensures .0 .2, l .inv .4, pre .0 .4))
 
 add-i : tie.Need-add-i Inv-loop μ-loop
 add-i c =
@@ -92,16 +92,16 @@ loop-again c =
     let one = one-most (invokes (σ .flag) (c .before .before .before .before .before .before .before .before .before .high-byte .result)) in
     let two = one-most (invokes (σ .flag) (c .before .before .before .before .low-byte .result)) in (
       omega (arith, test),
-      e₂ .kept .1 .1 .1 .1 .1 .1 .1 .0 ∙ e₁ .kept .1 .1 .1 .1 .1 .1 .1 .0 ∙ l .inv .1,
+      e₂ .kept .1 .1 .1 .1 .1 .1 .0 ∙ e₁ .kept .1 .1 .1 .1 .1 .1 .0 ∙ l .inv .1,
       e₂ .ensures .0 .0,
       e₂ .ensures .0 .1,
       omega (arith, one, two, e₁ .ensures .0 .2, e₂ .ensures .0 .2, l .inv .4),
       λ n. l .inv .5 n
-          ∙ ap (λ (cs : List ℕ). runFrom (n + l .cursor .taken) m (each (examine σ (a .source) (a .end)) cs (soFar (penOf (σ .linear) (a .list) (l .cursor)) (l .cells))))
+          ∙ ap (λ (cs : List ℕ). runFrom (n + l .cursor .taken) m (each (examine σ (a .room .source) (a .room .end)) cs (soFar (penOf (σ .linear) (a .list) (l .cursor)) (l .cells))))
           (codes-pair m (a .at) (l .i) (a .count) (omega (arith, pre .1 .0, test)) (omega (arith, test)))
-          ∙ listed-step m σ (a .source) (a .end) n (a .list) (a .count) (high w) (low w ∷ rest) (l .cursor) (e₁ .result) (l .cells) _ (pre .1 .1) (omega (arith, l .inv .4, test))
+          ∙ listed-step m σ (a .room .source) (a .room .end) n (a .list) (a .count) (high w) (low w ∷ rest) (l .cursor) (e₁ .result) (l .cells) _ (pre .1 .1) (omega (arith, l .inv .4, test))
           (rw first at (e₁ .ensures .0 .2)) (rw first at (e₁ .ensures .1))
-          ∙ listed-step m σ (a .source) (a .end) n (a .list) (a .count) (low w) rest (e₁ .result) (e₂ .result) _ _ (pre .1 .1) (omega (arith, one, e₁ .ensures .0 .2, l .inv .4, test))
+          ∙ listed-step m σ (a .room .source) (a .room .end) n (a .list) (a .count) (low w) rest (e₁ .result) (e₂ .result) _ _ (pre .1 .1) (omega (arith, one, e₁ .ensures .0 .2, l .inv .4, test))
           (rw second at (e₂ .ensures .0 .2)) (rw second at (e₂ .ensures .1)),
     )
 

@@ -14,7 +14,7 @@ use Rattle.runs.proofs.without_list.draw_characters.Tie as tie
 returns : tie.Need-returns
 returns c =
     let a = c .before .before .before .before .args in
-    (c .before .before .before .before .pre .1, sym (characters-ignored (a .hidden) (a .source) (a .end) (a .pen .latch) _ (soFar (a .pen) (a .cells .now)) (sym (c .before .is-shown .ensures) ∙ not-true _ (c .if1 .taken))))
+    (c .before .before .before .before .pre .1, sym (characters-ignored (a .hidden) (a .room .source) (a .room .end) (a .pen .latch) _ (soFar (a .pen) (a .cells .now)) (sym (c .before .is-shown .ensures) ∙ not-true _ (c .if1 .taken))))
 
 put-character-requires : tie.Need-put-character-requires
 put-character-requires c κs =
@@ -33,8 +33,8 @@ returns-2 c =
     let more = c .before .before .before .before .before .before .if2 .taken in
     let shown : a .hidden || not (ignores (a .pen .latch)) ≡ true = sym (c .before .before .before .before .before .before .before .before .before .before .before .before .before .before .is-shown .ensures) ∙ not-false _ (c .before .before .before .before .before .before .before .before .before .before .before .before .before .if1 .left) in (
       put .0,
-      sym (d .ensures .1 (a .hidden) (a .end) (a .count) shown (pre .0) (omega (arith, least, pre .1)) (omega (arith, least))
-          ∙ first-left (a .hidden) (a .source) (a .end) (a .pen .latch) (a .mem .now) (a .at + pairs) (a .count - 2 * pairs) _ _ (omega (arith, pre .3, more)) (omega (arith, more)) shown
+      sym (d .ensures .1 (a .hidden) (a .room .end) (a .count) shown (pre .0) (omega (arith, least, pre .1)) (omega (arith, least))
+          ∙ first-left (a .hidden) (a .room .source) (a .room .end) (a .pen .latch) (a .mem .now) (a .at + pairs) (a .count - 2 * pairs) _ _ (omega (arith, pre .3, more)) (omega (arith, more)) shown
           (rw (c .before .before .before .before .high-byte .ensures) at (put .1)) (λ g. rw (d .ensures .0) (omega (arith, g, least, pre .1)))),
     )
 
@@ -48,7 +48,7 @@ returns-3 c =
     let shown : a .hidden || not (ignores (a .pen .latch)) ≡ true = sym (c .before .before .before .before .before .before .before .before .is-shown .ensures) ∙ not-false _ (c .before .before .before .before .before .before .before .if1 .left) in
     let none : a .count - 2 * (c .before .before .before .before .before .lesser .result / 2) ≡ 0 = omega (arith, c .if2 .left) in (
       rw (d .ensures .0) (omega (arith, least, pre .1)),
-      sym (d .ensures .1 (a .hidden) (a .end) (a .count) shown (pre .0) (omega (arith, least, pre .1)) (omega (arith, least)) ∙ rw none),
+      sym (d .ensures .1 (a .hidden) (a .room .end) (a .count) shown (pre .0) (omega (arith, least, pre .1)) (omega (arith, least)) ∙ rw none),
     )
 
 pub draw-characters-spec : {M : Type 1} → statement M

@@ -14,7 +14,7 @@ draw-characters-requires : tie.Need-draw-characters-requires
 draw-characters-requires c κs =
     let a = c .before .before .before .args in
     let pre = c .before .before .before .pre in
-    (pre .0 .0, pre .0 .1, pre .0 .2, run-ends (length (a .mem .now)) (a .a) ((a .count + 1) / 2) (a .settings .linear) (pre .1 .1))
+    (pre .0 .0, pre .0 .1, pre .0 .2, run-ends (length (a .mem .now)) (a .p .address) ((a .count + 1) / 2) (a .settings .linear) (pre .1 .1))
 
 returns : tie.Need-returns
 returns c =
@@ -24,8 +24,8 @@ returns c =
     let n = a .words + (a .count + 1) / 2 in (
       (d .0, omega arith),
       ap (given n) (d .1)
-          ∙ sym (codes-run (a .mem .now) (a .settings) (a .source) (a .end) (a .words) (a .count) (a .a) (soFar (a .pen) (a .cells .now)) (pre .1 .1)
-          ∙ each-plain n (a .mem .now) (a .settings) (a .source) (a .end) (a .pen .latch) _ (soFar (a .pen) (a .cells .now)) (pre .1 .0) refl),
+          ∙ sym (codes-run (a .mem .now) (a .settings) (a .room .source) (a .room .end) (a .words) (a .count) (a .p) (soFar (a .pen) (a .cells .now)) (pre .1 .1)
+          ∙ each-plain n (a .mem .now) (a .settings) (a .room .source) (a .room .end) (a .pen .latch) _ (soFar (a .pen) (a .cells .now)) (pre .1 .0) refl),
     )
 
 pub draw-without-list-spec : {M : Type 1} → statement M
