@@ -1,3 +1,4 @@
+pub mod Alike
 pub mod CellBounds
 pub mod FillLaws
 pub mod FinishLaws

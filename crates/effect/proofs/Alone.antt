@@ -16,7 +16,8 @@ use Rattle.state.specs.State.{stateOf}
 use Rattle.codes.specs.Attribute.{ignores}
 use Rattle.plan.specs.Plan.{Plan}
 use Rattle.row.specs.Row.{Row, row, answered, rowCall}
-use Rattle.row.proofs.Alike.{kept, became, alike, EndAlike, ends, row-alike, Planned, accepts, refusing, row-planned}
+use Rattle.cells.proofs.Alike.{kept, became, alike}
+use Rattle.row.proofs.RowAlike.{EndAlike, ends, row-alike, Planned, accepts, refusing, row-planned}
 use Rattle.effect.specs.declared.Effect.{Effect}
 use Rattle.effect.specs.declared.Applied.{Applied}
 use Rattle.effect.specs.declared.Applied.the-variants.{Latch, Refused as Refuses}
@@ -119,7 +120,7 @@ module _ (σ : Settings) (m : List ℕ) (first : ℕ) where
   unfolding rowAlone
   head {f} c (goes {l} h) =
       rw (h, sized σ m (stateOf l f) (c .aloneBuffer) (c .aloneSize)) (same-row σ f (c .buffer) (c .aloneBuffer) (run m (row σ (stateOf l f))))
-  head c (stays n a e h) = rw (h, e)
+  head c (stays x e h) = rw (h, e)
 
   -- and the calls after it stand so again
   module _ (f : Fields) (above : Effect) (b : List ℕ) where
@@ -140,7 +141,7 @@ module _ (σ : Settings) (m : List ℕ) (first : ℕ) where
     tail (goes {l} h) =
         go-on l (run m (row σ (stateOf l f))) refl
         (apply-join above (effectCall σ m f .effect) first ∙ rw h (sym (outcome-latch σ m f l b))) (outcome-fields σ m f l b)
-    tail (stays n a e h) = rw e (stays n a e (apply-join above (effectCall σ m f .effect) first ∙ rw h))
+    tail (stays x e h) = rw e (stays x e (apply-join above (effectCall σ m f .effect) first ∙ rw h))
 
   turn : (c : Call) (cs : List Call) (f : Fields) (above : Effect) (s : State) → Stands f above s
       → ((f : Fields) (above : Effect) (s : State) → Stands f above s → inTurn σ m s cs ≡ drawnAlone σ m first f above cs)

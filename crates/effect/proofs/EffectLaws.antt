@@ -18,7 +18,7 @@ use Rattle.codes.specs.Codes.{Drawing, blank}
 use Rattle.cells.specs.Cells.{rowCells}
 use Rattle.cells.specs.Answers.{Finished, finish, finished}
 use Rattle.cells.proofs.FinishLaws.{finish-refused, finish-given}
-use Rattle.row.specs.Row.{Row, drawnBy, fromPlan, row}
+use Rattle.row.specs.Row.{codeSettings, Row, drawnBy, fromPlan, row}
 use Rattle.row.proofs.RowLaws.{planned-refused, planned-drawn}
 use Rattle.follow.specs.declared.Followed.{Followed}
 use Rattle.follow.specs.declared.Followed.the-variants.{Kept, Latched, Unclear}
@@ -49,12 +49,12 @@ module _ (σ : Settings) (m : List ℕ) (f : Fields) where
     Ends (Latched w) o = Accepts (Set w) o
     Ends Unclear o = Unit {0}
 
-    row-ends : (r : Followed) (ignore : Bool) → r ≡ ending (runFrom n m (rowCells σ (f .fill) (p .overlay) (p .segments) (blank (latchWith ignore))))
+    row-ends : (r : Followed) (ignore : Bool) → r ≡ ending (runFrom n m (rowCells (codeSettings σ) (f .fill) (p .overlay) (p .segments) (blank (latchWith ignore))))
         → Ends r (outcomeFor σ m f ignore)
     row-ends r ignore h = rw (← plan-given e ignore, h) (out (runFrom n m drawn) refl)
       where
         drawn : Reading Drawing
-        drawn = rowCells σ (f .fill) (p .overlay) (p .segments) (blank (latchWith ignore))
+        drawn = rowCells (codeSettings σ) (f .fill) (p .overlay) (p .segments) (blank (latchWith ignore))
 
         out : (o : Outcome Drawing) → runFrom n m drawn ≡ o → Ends (ending o) (runFrom n m (drawn >>= λ d. done (drawnBy p d)))
         out (given i d) e =
@@ -67,16 +67,16 @@ module _ (σ : Settings) (m : List ℕ) (f : Fields) where
     unfolding effectCall
     same part h = rw (h false .0, h true .0, h false .1)
 
-    pub kept-effect : AsDrawn σ m (f .fill) (p .overlay) (p .segments) Kept → sameParts Keep (p .next) ≡ effectCall σ m f
+    pub kept-effect : AsDrawn (codeSettings σ) m (f .fill) (p .overlay) (p .segments) Kept → sameParts Keep (p .next) ≡ effectCall σ m f
     kept-effect h = same Keep (λ ignore. row-ends Kept ignore (h n (latchWith ignore)))
 
-    pub latched-effect : (w : ℕ) → AsDrawn σ m (f .fill) (p .overlay) (p .segments) (Latched w) → sameParts (Set w) (p .next) ≡ effectCall σ m f
+    pub latched-effect : (w : ℕ) → AsDrawn (codeSettings σ) m (f .fill) (p .overlay) (p .segments) (Latched w) → sameParts (Set w) (p .next) ≡ effectCall σ m f
     latched-effect w h = same (Set w) (λ ignore. row-ends (Latched w) ignore (h n (latchWith ignore)))
 
 -- what the cells of a planned row tell is the row's
 module _ (σ : Settings) (m : List ℕ) (s : State) {n : ℕ} {p : Plan} (e : given n p ≡ run m (plan σ (s .fields))) where
   pub cells-row : (c : CellsDrawn) (cs : List ℕ)
-      → finished c cs ≡ finish (runFrom n m (rowCells σ (s .fields .fill) (p .overlay) (p .segments) (blank (s .latch))))
+      → finished c cs ≡ finish (runFrom n m (rowCells (codeSettings σ) (s .fields .fill) (p .overlay) (p .segments) (blank (s .latch))))
       → (partDrawn (s .fields) c ≡ partOf (s .fields) (run m (row σ s))) × ((x : NextFields) → nextDrawn (p .next) c x ≡ nextOf (run m (row σ s)) x)
   cells-row (Cells.Refused x) cs h = rw (← planned-refused σ m s e (finish-refused _ h)) (refl, λ x. refl)
   cells-row (Cells.Accepted l b i) cs h =

@@ -92,7 +92,8 @@ pub fn row_effect(settings: Settings, mem: &[u16], fields: Fields) -> EffectAnsw
         PlanAnswer::Planned(p) => {
             let fill = fields.fill;
             let overlay = p.overlay;
-            match follow::follow_row(mem, settings, fill, overlay, &back, p.count, &window) {
+            let code = row::code_settings(settings);
+            match follow::follow_row(mem, code, fill, overlay, &back, p.count, &window) {
                 Followed::Kept => same_parts(Part::Keep, p),
                 Followed::Latched(w) => same_parts(Part::Set(w), p),
                 Followed::Unclear => drawn_effect(settings, mem, fields, p, &back, &window),
@@ -150,10 +151,11 @@ fn draw_from(
 {
     let fill = fields.fill;
     let overlay = p.overlay;
+    let code = row::code_settings(settings);
     let mut cells = [0u32; 132];
     cells::draw_cells(
         mem,
-        settings,
+        code,
         fill,
         overlay,
         back,

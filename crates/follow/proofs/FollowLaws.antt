@@ -6,7 +6,7 @@ use Prim.Native.Nat.{ℕ, suc, _+_, _-_, _*_, _<_}
 use native.Mathlib.Omega.{arith}
 use lib.ListN.{getD, drop}
 use Rattle.memory.specs.Word.{if_then_else_, high, low}
-use Rattle.settings.specs.declared.Settings.{Settings}
+use Rattle.codes.specs.declared.CodeSettings.{CodeSettings}
 use Rattle.blocks.specs.declared.Segment.{Segment}
 use Rattle.blocks.specs.RowBlock.{segmentOf, segmentsOf}
 use Rattle.blocks.proofs.BlockLaws.{segments-more, segments-none}
@@ -32,7 +32,7 @@ join-assoc (Latched w) (Latched v) (Latched u) = refl
 join-assoc (Latched w) (Latched v) Unclear = refl
 
 -- the segments on a side, from segment i on: the one in turn, where it is chosen, and those after it; none
-module _ (σ : Settings) (m : List ℕ) (side : Side) (at left i : ℕ) (ws : List ℕ) where
+module _ (σ : CodeSettings) (m : List ℕ) (side : Side) (at left i : ℕ) (ws : List ℕ) where
   abbrev turn : Segment
   turn = segmentOf (σ .linear) (drop (5 * i) ws)
 

@@ -10,14 +10,15 @@ use lib.ListN.{length, getD}
 use lib.Dec.{ltb}
 use Rattle.memory.specs.Word.{if_then_else_, high, low}
 use Rattle.memory.specs.Reading.{Reading, _>>=_, each, Outcome, given, refused, runFrom}
-use Rattle.memory.specs.Address.{ahead, isRun}
+use Rattle.memory.specs.declared.Pointer.{Pointer}
+use Rattle.memory.specs.Address.{null, ahead, further}
+use Rattle.memory.specs.Answers.{isRun}
 use Rattle.memory.proofs.Laws.{bind-given, run-done, ask-word}
 use Rattle.memory.proofs.ReadBounds.{both, if-cases}
 use Rattle.memory.proofs.RunLaws.{ahead-next, run-fetch}
-use Rattle.settings.specs.declared.Settings.{Settings}
+use Rattle.codes.specs.declared.CodeSettings.{CodeSettings}
 use Rattle.blocks.specs.declared.FillMode.{FillMode}
 use Rattle.blocks.specs.declared.Segment.{Segment}
-use Rattle.memory.specs.Address.{null}
 use Rattle.layout.specs.Layout.{width, Overlay, none, over}
 use Rattle.codes.specs.declared.Source.{Source}
 use Rattle.codes.specs.declared.Source.the-variants.{Background, Window}
@@ -57,7 +58,7 @@ module _ (P : Bool → ℕ → AttributeList → Type 0) where
   unfolding character put
   character-of hidden source end a code d h = if-cases (Of P) ((hidden || not (ignores a)) && ltb (d .pen .column) end) (λ _. h) (λ _. h)
 
-  fill-of : (n : ℕ) (m : List ℕ) (σ : Settings) (fill : FillMode) → fill .flag ≡ false → (end : ℕ) (d : Drawing)
+  fill-of : (n : ℕ) (m : List ℕ) (σ : CodeSettings) (fill : FillMode) → fill .flag ≡ false → (end : ℕ) (d : Drawing)
       → Of P d → Given (Of P) (runFrom n m (fillTo σ fill end d))
   unfolding fillTo filled put
   fill-of n m σ fill e end d h =
@@ -106,40 +107,40 @@ tells-bind {b} {latch} {f} {g} n m x k t s = out t refl
 -- ---- codes ----
 
 -- codes in a run of memory: I, which holds after i words of a list, holds after those that each code takes
-module _ (m : List ℕ) (σ : Settings) (source : Source) (end : ℕ) (I : ℕ → Drawing → Type 0) (k : ℕ)
+module _ (m : List ℕ) (σ : CodeSettings) (source : Source) (end : ℕ) (I : ℕ → Drawing → Type 0) (k : ℕ)
     (step : (n i code : ℕ) (d : Drawing) → i + takes (σ .flag) code ≤ k → I i d
     → Given (I (i + takes (σ .flag) code)) (runFrom n m (examine σ source end code d)))
-    (a c : ℕ) (run : isRun (σ .linear) (length m) a c ≡ true) where
-  codes-from : (left j n i : ℕ) (d : Drawing) → j + (left + 1) / 2 ≤ c → i + invoking (σ .flag) m (a / 2 + j) left ≤ k → I i d
-      → Given (I (i + invoking (σ .flag) m (a / 2 + j) left)) (runFrom n m (codes σ source end left (ahead (σ .linear) j a) d))
+    (p : Pointer) (c : ℕ) (run : isRun (σ .linear) (length m) (p .address) c ≡ true) where
+  codes-from : (left j n i : ℕ) (d : Drawing) → j + (left + 1) / 2 ≤ c → i + invoking (σ .flag) m (p .address / 2 + j) left ≤ k → I i d
+      → Given (I (i + invoking (σ .flag) m (p .address / 2 + j) left)) (runFrom n m (codes σ source end left (further (σ .linear) j p) d))
   unfolding codes wordCodes each _>>=_
-  codes-from zero j n i d l t h = rw (invoking-none (σ .flag) m (a / 2 + j) 0 refl, add-zero i) (along (run-done n m d) (is h))
+  codes-from zero j n i d l t h = rw (invoking-none (σ .flag) m (p .address / 2 + j) 0 refl, add-zero i) (along (run-done n m d) (is h))
   codes-from (suc zero) j n i d l t h =
-      let one = invoking-one (σ .flag) m (a / 2 + j) 1 refl in
-      rw one (along (ask-word n m (ahead (σ .linear) j a) _ _ (run-fetch (σ .linear) m a c j run (omega arith)))
+      let one = invoking-one (σ .flag) m (p .address / 2 + j) 1 refl in
+      rw one (along (ask-word n m (further (σ .linear) j p) _ _ (run-fetch (σ .linear) m (p .address) c j run (omega arith)))
       (given-bind (n + 1) m _ _ (step (n + 1) i _ d (rw one at t) h) λ n d h. along (run-done n m d) (is h)))
   codes-from (suc (suc left)) j n i d l t h =
-      let w : ℕ = getD m (a / 2 + j) 0 in
+      let w : ℕ = getD m (p .address / 2 + j) 0 in
       let x : ℕ = takes (σ .flag) (high w) in
       let y : ℕ = takes (σ .flag) (low w) in
-      let next : a / 2 + j + 1 ≡ a / 2 + (j + 1) = omega arith in
-      let more : invoking (σ .flag) m (a / 2 + j) (suc (suc left)) ≡ x + y + invoking (σ .flag) m (a / 2 + (j + 1)) left
-      = invoking-more (σ .flag) m (a / 2 + j) (suc (suc left)) left (omega arith) ∙ rw next in
-      let sum : i + (x + y + invoking (σ .flag) m (a / 2 + (j + 1)) left) ≡ i + x + y + invoking (σ .flag) m (a / 2 + (j + 1)) left = omega arith in
-      rw (more, sum) (along (ask-word n m (ahead (σ .linear) j a) _ _ (run-fetch (σ .linear) m a c j run (omega arith)))
+      let next : p .address / 2 + j + 1 ≡ p .address / 2 + (j + 1) = omega arith in
+      let more : invoking (σ .flag) m (p .address / 2 + j) (suc (suc left)) ≡ x + y + invoking (σ .flag) m (p .address / 2 + (j + 1)) left
+      = invoking-more (σ .flag) m (p .address / 2 + j) (suc (suc left)) left (omega arith) ∙ rw next in
+      let sum : i + (x + y + invoking (σ .flag) m (p .address / 2 + (j + 1)) left) ≡ i + x + y + invoking (σ .flag) m (p .address / 2 + (j + 1)) left = omega arith in
+      rw (more, sum) (along (ask-word n m (further (σ .linear) j p) _ _ (run-fetch (σ .linear) m (p .address) c j run (omega arith)))
       (given-bind (n + 1) m _ _
       (given-bind (n + 1) m _ _ (step (n + 1) i (high w) d (omega arith) h)
       λ n d h. given-bind n m _ _ (step n (i + x) (low w) d (omega arith) h) λ n d h. along (run-done n m d) (is h))
-      λ n d h. rw (ahead-next (σ .linear) j a, ← add-one j) (codes-from left (j + 1) n (i + x + y) d (omega arith) (omega arith) h)))
+      λ n d h. rw (ahead-next (σ .linear) j (p .address), ← add-one j) (codes-from left (j + 1) n (i + x + y) d (omega arith) (omega arith) h)))
 
-  codes-run : (left n : ℕ) (d : Drawing) → c ≡ (left + 1) / 2 → invoking (σ .flag) m (a / 2) left ≤ k → I 0 d
-      → Given (I (invoking (σ .flag) m (a / 2) left)) (runFrom n m (codes σ source end left a d))
+  codes-run : (left n : ℕ) (d : Drawing) → c ≡ (left + 1) / 2 → invoking (σ .flag) m (p .address / 2) left ≤ k → I 0 d
+      → Given (I (invoking (σ .flag) m (p .address / 2) left)) (runFrom n m (codes σ source end left p d))
   unfolding ahead
   codes-run left n d e t h =
-      let at : a / 2 + 0 ≡ a / 2 = omega arith in
-      rw (at, zero-add (invoking (σ .flag) m (a / 2) left)) at (codes-from left 0 n 0 d (omega arith) (rw at (omega arith)) h)
+      let at : p .address / 2 + 0 ≡ p .address / 2 = omega arith in
+      rw (at, zero-add (invoking (σ .flag) m (p .address / 2) left)) at (codes-from left 0 n 0 d (omega arith) (rw at (omega arith)) h)
 
-module _ (m : List ℕ) (σ : Settings) (source : Source) (end : ℕ) (b : Bool) (latch : ℕ) where
+module _ (m : List ℕ) (σ : CodeSettings) (source : Source) (end : ℕ) (b : Bool) (latch : ℕ) where
   -- without a list no code takes a word
   abbrev Plain : Bool → ℕ → AttributeList → Type 0
   Plain x y u = Has b latch Kept x y × (u .present ≡ false)
@@ -154,9 +155,9 @@ module _ (m : List ℕ) (σ : Settings) (source : Source) (end : ℕ) (b : Bool)
       off false = refl
 
   -- with one, after i of its words
-  module _ (list k : ℕ) (run : isRun (σ .linear) (length m) list k ≡ true) where
+  module _ (list : Pointer) (k : ℕ) (run : isRun (σ .linear) (length m) (list .address) k ≡ true) where
     abbrev Listed : ℕ → Bool → ℕ → AttributeList → Type 0
-    Listed i x y u = Has b latch (lastLatched m (list / 2) i) x y × (u ≡ record { present = true; next = ahead (σ .linear) i list })
+    Listed i x y u = Has b latch (lastLatched m (list .address / 2) i) x y × (u ≡ record { present = true; next = further (σ .linear) i list })
 
     listed-step : (n i code : ℕ) (d : Drawing) → i + takes (σ .flag) code ≤ k → Of (Listed i) d
         → Given (Of (Listed (i + takes (σ .flag) code))) (runFrom n m (examine σ source end code d))
@@ -164,20 +165,20 @@ module _ (m : List ℕ) (σ : Settings) (source : Source) (end : ℕ) (b : Bool)
     listed-step n i code d l h = by (invokes (σ .flag) code) refl
       where
         w : ℕ
-        w = getD m (list / 2 + i) 0
+        w = getD m (list .address / 2 + i) 0
 
         by : (t : Bool) → invokes (σ .flag) code ≡ t → Given (Of (Listed (i + takes (σ .flag) code))) (runFrom n m (examine σ source end code d))
         by true e =
             let short : i < k = omega (arith, rw e at l) in
-            along (examine-word n m σ source end code d w (rw (e, h .1)) (rw (h .1) (run-fetch (σ .linear) m list k i run short)))
+            along (examine-word n m σ source end code d w (rw (e, h .1)) (rw (h .1) (run-fetch (σ .linear) m (list .address) k i run short)))
             (is (rw (e, add-one i) (character-of (Listed (suc i)) (σ .hidden) source end w code _
-            (has-word b latch (latches w) w _ _ _ (h .0), rw (h .1, ahead-next (σ .linear) i list)))))
+            (has-word b latch (latches w) w _ _ _ (h .0), rw (h .1, ahead-next (σ .linear) i (list .address))))))
         by false e =
             along (examine-latch n m σ source end code d (rw e))
             (is (rw (e, add-zero i) (character-of (Listed i) (σ .hidden) source end (d .pen .latch) code d h)))
 
 -- ---- segments and rows ----
-module _ (m : List ℕ) (σ : Settings) (fill : FillMode) (no : fill .flag ≡ false) where
+module _ (m : List ℕ) (σ : CodeSettings) (fill : FillMode) (no : fill .flag ≡ false) where
   fill-tells : (end n : ℕ) (d : Drawing) → Tells (d .pen .latched) (d .pen .latch) Kept (runFrom n m (fillTo σ fill end d))
   fill-tells end n d =
       tells-given _ _ (λ x y u h. h) (fill-of (λ x y u. Has (d .pen .latched) (d .pen .latch) Kept x y) n m σ fill no end d (refl, refl))
@@ -246,7 +247,7 @@ module _ (m : List ℕ) (σ : Settings) (fill : FillMode) (no : fill .flag ≡ f
       λ n d₂. run-tells Background _ 132 n (withList (d₁ .pen .list) d₂))
 
 -- what is followed of a row is what its drawing makes of the latch
-module _ (σ : Settings) (m : List ℕ) (fill : FillMode) (o : Overlay) (gs : List Segment) where
+module _ (σ : CodeSettings) (m : List ℕ) (fill : FillMode) (o : Overlay) (gs : List Segment) where
   pub row-ends : {r : Followed} → r ≡ overRow σ m fill o gs → (r ≡ overRow σ m fill o gs) × AsDrawn σ m fill o gs r
   unfolding overRow
   row-ends e = (e, rw e (by (fill .flag) refl))

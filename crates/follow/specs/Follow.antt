@@ -8,7 +8,7 @@ use lib.ListN.{length, getD}
 use Rattle.memory.specs.Word.{if_then_else_, high, low}
 use Rattle.memory.specs.Reading.{Outcome, given, refused, runFrom}
 use Rattle.memory.specs.Answers.{isRun}
-use Rattle.settings.specs.declared.Settings.{Settings}
+use Rattle.codes.specs.declared.CodeSettings.{CodeSettings}
 use Rattle.blocks.specs.declared.FillMode.{FillMode}
 use Rattle.blocks.specs.declared.Segment.{Segment}
 use Rattle.memory.specs.Address.{null}
@@ -44,7 +44,7 @@ unfoldable pub lastLatched : List ℕ → ℕ → ℕ → Followed
 lastLatched m at zero = Kept
 lastLatched m at (suc k) = if latches (getD m (at + k) 0) then Latched (getD m (at + k) 0) else lastLatched m at k
 
-module _ (σ : Settings) (m : List ℕ) where
+module _ (σ : CodeSettings) (m : List ℕ) where
   -- "A code invokes an attribute when .. its segment's attribute pointer is not null"
   unfoldable pub taken : Segment → ℕ
   taken g = if null (g .attributes) then 0 else invoking (σ .flag) m (g .codes .address / 2) (codeCount g)
@@ -83,6 +83,6 @@ orElse (Latched w) e = Latched w
 orElse Unclear e = e
 
 -- a row ends as followed, where that is clear, from any latch and whatever was read before
-abbrev pub AsDrawn : Settings → List ℕ → FillMode → Overlay → List Segment → Followed → Type 0
+abbrev pub AsDrawn : CodeSettings → List ℕ → FillMode → Overlay → List Segment → Followed → Type 0
 AsDrawn σ m fill o gs r =
     (n latch : ℕ) → orElse r (ending (runFrom n m (rowCells σ fill o gs (blank latch)))) ≡ ending (runFrom n m (rowCells σ fill o gs (blank latch)))

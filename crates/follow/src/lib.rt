@@ -3,7 +3,7 @@ use blocks::FillMode;
 use blocks::Segment;
 use layout::OverlayHead;
 use layout::Side;
-use settings::Settings;
+use codes::CodeSettings;
 ghost use mathlib.Core.Path.{_≡_};
 ghost use Rattle.memory.specs.Word.{if_then_else_};
 ghost use Rattle.blocks.specs.RowBlock.{segmentsOf};
@@ -24,7 +24,7 @@ pub enum Followed {
 // The latch over a row, as its plan says: the background's segments in `back`, a window's in `window`.
 pub fn follow_row(
     mem: &[u16],
-    settings: Settings,
+    settings: CodeSettings,
     fill: FillMode,
     overlay: OverlayHead,
     back: &[u16; 75],
@@ -57,7 +57,7 @@ pub fn follow_row(
 // The latch over what comes before, and then over the segments on a side.
 fn follow_side(
     mem: &[u16],
-    settings: Settings,
+    settings: CodeSettings,
     side: Side,
     segments: &[u16; 75],
     count: u8,
@@ -70,7 +70,7 @@ fn follow_side(
     let mut at = 0;
     let mut i = 0;
     while i < n {
-        let g = layout::segment_at(settings.linear, segments, i);
+        let g = blocks::segment_at(settings.linear, segments, i);
         let w = layout::width(settings.hidden, g);
         let chosen = layout::on_side(side, at, w);
         followed = join(followed, follow_chosen(mem, settings, chosen, g));
@@ -81,7 +81,7 @@ fn follow_side(
 }
 
 // The latch over one segment, where it is chosen.
-fn follow_chosen(mem: &[u16], settings: Settings, chosen: bool, g: Segment) -> Followed
+fn follow_chosen(mem: &[u16], settings: CodeSettings, chosen: bool, g: Segment) -> Followed
     ensures { λ r. ⌜ r ≡ (if chosen then overSegment settings (now (mem .entry)) g else Kept) ⌝ }
 {
     if chosen {

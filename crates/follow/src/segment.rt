@@ -2,7 +2,7 @@
 use crate::Followed;
 use blocks::Segment;
 use codes::attribute;
-use settings::Settings;
+use codes::CodeSettings;
 ghost use mathlib.Core.Path.{_≡_};
 ghost use Prim.Native.Nat.{_+_, _/_, _≤_};
 ghost use lib.ListN.{length};
@@ -10,7 +10,7 @@ ghost use Rattle.cells.specs.Cells.{codeCount};
 ghost use Rattle.follow.specs.Follow.{takes, invoking, lastLatched, taken, overSegment};
 
 // The latch over a segment.
-pub(crate) fn follow_segment(mem: &[u16], settings: Settings, g: Segment) -> Followed
+pub(crate) fn follow_segment(mem: &[u16], settings: CodeSettings, g: Segment) -> Followed
     ensures { λ r. ⌜ r ≡ overSegment settings (now (mem .entry)) g ⌝ }
 {
     let n = cells::code_count(g) as usize;
@@ -26,7 +26,7 @@ pub(crate) fn follow_segment(mem: &[u16], settings: Settings, g: Segment) -> Fol
 }
 
 // How many words of its list the codes of a segment take.
-fn words_taken(mem: &[u16], settings: Settings, g: Segment) -> usize
+fn words_taken(mem: &[u16], settings: CodeSettings, g: Segment) -> usize
     requires { ⌜ g .codes .address / 2 + (codeCount g + 1) / 2 ≤ length (now mem) ⌝ }
     ensures { λ r. ⌜ r ≡ taken settings (now (mem .entry)) g ⌝ }
 {

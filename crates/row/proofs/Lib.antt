@@ -1,3 +1,3 @@
 pub mod RowBound
-pub mod Alike
+pub mod RowAlike
 pub mod RowLaws

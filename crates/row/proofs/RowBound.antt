@@ -13,7 +13,7 @@ use Rattle.memory.proofs.ReadBounds.{Words, Reads, dones, bind, Within, given-w
 use Rattle.settings.specs.declared.Settings.{Settings}
 use Rattle.state.specs.declared.Fields.{Fields}
 use Rattle.state.specs.declared.State.{State}
-use Rattle.row.specs.Row.{Row, row, withCursor, Called, answered, rowCall}
+use Rattle.row.specs.Row.{codeSettings, Row, row, withCursor, Called, answered, rowCall}
 use Rattle.plan.proofs.PlanBounds.{plan-reads}
 use Rattle.codes.specs.Codes.{blank}
 use Rattle.cells.proofs.CellBounds.{cells-read}
@@ -31,7 +31,7 @@ unfolding row
 row-reads σ s =
     bind {n = 167} {k = 11523} (lit≤ tt) (plan-reads σ (s .fields)) λ p hp.
     bind {n = 11523} {k = 0} (lit≤ tt)
-    (cells-read σ (s .fields .fill) (p .overlay) (p .segments) (blank (s .latch)) (hp .few) (hp .narrow) (hp .inside) (hp .edges) (refl, refl)) λ d h.
+    (cells-read (codeSettings σ) (s .fields .fill) (p .overlay) (p .segments) (blank (s .latch)) (hp .few) (hp .narrow) (hp .inside) (hp .edges) (refl, refl)) λ d h.
     dones (record { whole = omega (arith, h .0, h .1); within = hp .within; numbered = hp .numbered; fewer = hp .fewer })
 
 -- the cursor's mark adds no cell

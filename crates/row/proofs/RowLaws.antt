@@ -23,7 +23,7 @@ use Rattle.plan.proofs.PlanBounds as Bounds
 use Rattle.codes.specs.Codes.{Drawing, blank}
 use Rattle.cells.specs.Cells.{rowCells}
 use Rattle.cells.specs.Answers.{Inside, Drawable}
-use Rattle.row.specs.Row.{drawnBy, row}
+use Rattle.row.specs.Row.{codeSettings, drawnBy, row}
 
 -- what a sound plan gives the cells
 inside : (hidden : Bool) (o : Overlay) → Overlays.Inside hidden o → Inside hidden o
@@ -47,7 +47,7 @@ plan-refused σ m s h = sym (bind-refused 0 m (plan σ (s .fields)) _ (sym h))
 -- a row from its plan, once that is given
 module _ (σ : Settings) (m : List ℕ) (s : State) {n : ℕ} {p : Plan} (e : given n p ≡ run m (plan σ (s .fields))) where
   abbrev cells : Reading Drawing
-  cells = rowCells σ (s .fields .fill) (p .overlay) (p .segments) (blank (s .latch))
+  cells = rowCells (codeSettings σ) (s .fields .fill) (p .overlay) (p .segments) (blank (s .latch))
 
   pub planned-refused : {x : Fault} → refused x ≡ runFrom n m cells → refused x ≡ run m (row σ s)
   unfolding row

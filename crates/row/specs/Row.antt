@@ -16,8 +16,13 @@ use Rattle.row.specs.declared.RowAnswer.{RowAnswer}
 use Rattle.row.specs.declared.RowAnswer.the-variants.{Accepted, Refused}
 use Rattle.state.specs.State.{stateOf}
 use Rattle.plan.specs.Plan.{Plan, plan}
+use Rattle.codes.specs.declared.CodeSettings.{CodeSettings}
 use Rattle.codes.specs.Codes.{Drawing, blank}
 use Rattle.cells.specs.Cells.{rowCells}
+
+-- the settings that the cells of a row are drawn by
+abbrev pub codeSettings : Settings → CodeSettings
+codeSettings σ = record { linear = σ .linear; hidden = σ .hidden; flag = σ .flag }
 
 -- what a row comes to: its lines and format, the next state's fields, and its drawing at the end
 pub record Row : Type 0 where
@@ -32,7 +37,7 @@ drawnBy p d = record { lines = p .lines; format = p .format; next = p .next; dra
 -- "then cells as met (7, 13)"
 abbrev pub fromPlan : Settings → FillMode → ℕ → Plan → Reading Row
 fromPlan σ fill latch p = do
-  d ← rowCells σ fill (p .overlay) (p .segments) (blank latch)
+  d ← rowCells (codeSettings σ) fill (p .overlay) (p .segments) (blank latch)
   done (drawnBy p d)
 
 -- "Row: 1 to 5; .. 12; then cells as met (7, 13)." Check 1, on the row buffer, is the row call's.

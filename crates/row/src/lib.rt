@@ -1,6 +1,7 @@
 // The row call: the next row of a frame, into a row buffer.
 use blocks::RowFormat;
 use cells::CellsDrawn;
+use codes::CodeSettings;
 use memory::Refusal;
 use plan::PlanAnswer;
 use plan::PlanHead;
@@ -13,7 +14,7 @@ ghost use Rattle.memory.specs.Reading.{given, run};
 ghost use Rattle.state.specs.State.{stateOf};
 ghost use Rattle.plan.specs.Plan.{plan};
 ghost use Rattle.plan.specs.Answers.{planOf};
-ghost use Rattle.row.specs.Row.{row, withCursor, called, answerOf, answered, rowCall, FewWords};
+ghost use Rattle.row.specs.Row.{codeSettings, row, withCursor, called, answerOf, answered, rowCall, FewWords};
 
 // The answer of an accepted row, but for its cells, which the row buffer has.
 pub struct DrawnRow {
@@ -47,6 +48,17 @@ pub fn row(settings: Settings, mem: &[u16], state: State, buffer: &mut [u32]) ->
     }
 }
 
+// The settings that the cells of a row are drawn by.
+pub fn code_settings(settings: Settings) -> CodeSettings
+    ensures { λ r. ⌜ r ≡ codeSettings settings ⌝ }
+{
+    CodeSettings {
+        linear: settings.linear,
+        hidden: settings.hidden,
+        flag: settings.flag,
+    }
+}
+
 // A planned row: its cells in an array of its own, copied into the buffer once all is accepted.
 fn draw_planned(
     settings: Settings,
@@ -64,10 +76,11 @@ fn draw_planned(
     let fields = state.fields;
     let fill = fields.fill;
     let overlay = p.overlay;
+    let code = code_settings(settings);
     let mut cells = [0u32; 132];
     match cells::draw_cells(
         mem,
-        settings,
+        code,
         fill,
         overlay,
         back,

@@ -8,7 +8,7 @@ use Rattle.effect.proofs.row_effect.Tie as tie
 
 drawn-effect-requires : tie.Need-drawn-effect-requires
 drawn-effect-requires c κs =
-    let y = c .before .before .before .before .before .before .before .before .before in
+    let y = c .before .before .before .before .before .before .before .before .before .before in
     rw (y .p .given .1) at (y .before .before .plan-row .ensures)
 
 returns : tie.Need-returns
@@ -20,19 +20,19 @@ returns c =
 
 returns-2 : tie.Need-returns-2
 returns-2 c =
-    let y = c .before .before .before .before .before .before .before .before in
+    let y = c .before .before .before .before .before .before .before .before .before in
     let a = y .before .before .before .before .before .before .args in
     c .same-parts .ensures
     ∙ kept-effect (a .settings) (a .mem .now) (a .fields) (rw (y .p .given .1) at (y .before .before .plan-row .ensures))
-    (rw (c .before .enum-told .given .1) at (c .before .before .before .follow-row .ensures .1))
+    (rw (c .before .enum-told .given .1, c .before .before .before .before .before .before .code-settings .ensures) at (c .before .before .before .follow-row .ensures .1))
 
 returns-3 : tie.Need-returns-3
 returns-3 c =
-    let y = c .before .before .before .before .before .before .before .before .before in
+    let y = c .before .before .before .before .before .before .before .before .before .before in
     let a = y .before .before .before .before .before .before .args in
     c .same-parts2 .ensures
     ∙ latched-effect (a .settings) (a .mem .now) (a .fields) (rw (y .p .given .1) at (y .before .before .plan-row .ensures)) _
-    (rw (c .before .before .w .given .1) at (c .before .before .before .before .follow-row .ensures .1))
+    (rw (c .before .before .w .given .1, c .before .before .before .before .before .before .before .code-settings .ensures) at (c .before .before .before .before .follow-row .ensures .1))
 
 pub row-effect-spec : {M : Type 1} → statement M
 row-effect-spec =
@@ -42,6 +42,7 @@ row-effect-spec =
     (λ c. search needs)
     (λ c κs. search needs)
     (λ c. search needs)
+    (λ c κs. search needs)
     (λ c κs. search needs)
     (λ c. search needs)
     (λ c κs. search needs)

@@ -14,24 +14,24 @@ use Rattle.row.proofs.draw_planned.Tie as tie
 
 draw-cells-requires : tie.Need-draw-cells-requires
 draw-cells-requires c κs =
-    let a = c .before .before .before .before .before .args in
-    let k = plan-drawable (a .settings) (a .mem .now) (λ i. c .before .before .before .before .shared-slice-known .given i .fits) (a .state .fields) (c .before .before .before .before .before .pre .1) in
-    (k .0, (k .1, search needs))
+    let a = c .before .before .before .before .before .before .args in
+    let k = plan-drawable (a .settings) (a .mem .now) (λ i. c .before .before .before .before .before .shared-slice-known .given i .fits) (a .state .fields) (c .before .before .before .before .before .before .pre .1) in
+    rw (c .before .code-settings .ensures) (k .0, (k .1, search needs))
 
 returns : tie.Need-returns
 returns c =
-    let a = c .before .before .before .before .before .before .before .before .before .before .before .args in (
+    let a = c .before .before .before .before .before .before .before .before .before .before .before .before .args in (
       lit< tt,
       rw (c .refusal-of .ensures)
-          (ap (answered (a .settings) (a .state .fields) (a .buffer .now)) (planned-refused (a .settings) (a .mem .now) (a .state) (c .before .before .before .before .before .before .before .before .before .before .before .pre .1) (finish-refused _ (rw (c .before .before .fault .given .1) at (c .before .before .before .before .before .draw-cells .ensures))))),
+          (ap (answered (a .settings) (a .state .fields) (a .buffer .now)) (planned-refused (a .settings) (a .mem .now) (a .state) (c .before .before .before .before .before .before .before .before .before .before .before .before .pre .1) (finish-refused _ (rw (c .before .before .fault .given .1, c .before .before .before .before .before .before .before .code-settings .ensures) at (c .before .before .before .before .before .draw-cells .ensures))))),
     )
 
 returns-2 : tie.Need-returns-2
 returns-2 c =
-    let a = c .before .before .before .before .before .before .before .before .before .before .before .before .before .before .before .before .before .before .before .args in
-    let g = finish-given _ (rw (c .before .before .before .before .before .before .before .before .before .before .latch .given .1) at (c .before .before .before .before .before .before .before .before .before .before .before .before .before .draw-cells .ensures)) in
-    let e = planned-drawn (a .settings) (a .mem .now) (a .state) (c .before .before .before .before .before .before .before .before .before .before .before .before .before .before .before .before .before .before .before .pre .1) (g .is) in
-    let k = row-bound (a .settings) (a .mem .now) (λ i. c .before .before .before .before .before .before .before .before .before .before .before .before .before .before .before .before .before .before .shared-slice-known .given i .fits) (a .state) _ _ (sym e) in
+    let a = c .before .before .before .before .before .before .before .before .before .before .before .before .before .before .before .before .before .before .before .before .args in
+    let g = finish-given _ (rw (c .before .before .before .before .before .before .before .before .before .before .latch .given .1, c .before .before .before .before .before .before .before .before .before .before .before .before .before .before .before .code-settings .ensures) at (c .before .before .before .before .before .before .before .before .before .before .before .before .before .draw-cells .ensures)) in
+    let e = planned-drawn (a .settings) (a .mem .now) (a .state) (c .before .before .before .before .before .before .before .before .before .before .before .before .before .before .before .before .before .before .before .before .pre .1) (g .is) in
+    let k = row-bound (a .settings) (a .mem .now) (λ i. c .before .before .before .before .before .before .before .before .before .before .before .before .before .before .before .before .before .before .before .shared-slice-known .given i .fits) (a .state) _ _ (sym e) in
     rw (c .row-answer .ensures) (
       k .0,
       ap₂ (λ (latch : ℕ) (cs : List ℕ). called (answerOf (a .state .fields .row) (a .p .lines) (a .p .format) (c .before .before .before .before .before .before .before .before .before .before .latch .given .0 .1 .1 .0) (stateOf latch (a .p .next))) cs)
@@ -44,6 +44,7 @@ pub draw-planned-spec : {M : Type 1} → statement M
 draw-planned-spec =
     tie.close
     (tie.spec
+    (λ c κs. search needs)
     (λ c. search needs)
     draw-cells-requires
     (λ c. search needs)

@@ -10,7 +10,7 @@ use Rattle.row.proofs.row.Tie as tie
 
 returns : tie.Need-returns
 unfolding rowCall
-returns c = rw (c .refusal-of .ensures, c .before .fault-of .ensures, ne-eqb _ 132 (c .before .if1 .taken)) (lit< tt, refl)
+returns c = rw (c .refusal-of .ensures, c .before .fault-of .ensures, ne-eqb _ 132 (c .before .before .if1 .taken)) (lit< tt, refl)
 
 draw-planned-requires : tie.Need-draw-planned-requires
 draw-planned-requires c κs = (c .before .before .before .before .before .before .before .before .before .if1 .left, rw (c .before .before .before .before .p .given .1) at (c .before .before .before .before .before .before .plan-row .ensures))
@@ -34,6 +34,7 @@ pub row-spec : {M : Type 1} → statement M
 row-spec =
     tie.close
     (tie.spec
+    (λ c κs. search needs)
     (λ c κs. search needs)
     returns
     (λ c κs. search needs)
