@@ -137,14 +137,14 @@ buffer = replicate 132 0
 
 -- the first row of a frame
 firstRow : Settings → List ℕ → Called
-firstRow σ m = rowCall σ m (stateOfStart (startCall σ m)) buffer
+firstRow σ m = rowCall σ m (stateOfStart (startCall 0 σ m)) buffer
 
 -- the parts of the first row's effect, ignore clear and ignore set
 clearPart : Settings → List ℕ → List ℕ
-clearPart σ m = partShown (effectCall σ m (stateOfStart (startCall σ m) .fields) .effect .clear)
+clearPart σ m = partShown (effectCall σ m (stateOfStart (startCall 0 σ m) .fields) .effect .clear)
 
 setPart : Settings → List ℕ → List ℕ
-setPart σ m = partShown (effectCall σ m (stateOfStart (startCall σ m) .fields) .effect .set)
+setPart σ m = partShown (effectCall σ m (stateOfStart (startCall 0 σ m) .fields) .effect .set)
 
 row0 : Called
 row0 = firstRow sheetS memoryS
@@ -233,7 +233,7 @@ tests =
     -- P4
     ∷ eqb (pointer false 0x0123 0 .address) 0x10000 ∷ eqb (pointer true 0x0123 0 .address) 0x230000
     -- the start of S
-    ∷ eqb (wordsOfStart (startCall sheetS memoryS)) 7
+    ∷ eqb (wordsOfStart (startCall 0 sheetS memoryS)) 7
     -- P5
     ∷ same (shown row0) (0 ∷ 8 ∷ 0 ∷ 0 ∷ 31 ∷ 12 ∷ 0x100041 ∷ 0x500042 ∷ 0x100281 ∷ replicate 129 0x220)
     -- P6
