@@ -15,7 +15,7 @@ use Rattle.frame.specs.declared.Progress.{Progress}
 use Rattle.frame.specs.declared.BeginAnswer.{BeginAnswer}
 use Rattle.frame.specs.declared.BeginAnswer.the-variants as Begin
 use Rattle.frame.specs.Step.{begin}
-use Rattle.frame.specs.Frame.{Frame, stopped, rest, fromBegin, frame, handedOnBy, handedOn, Screen, frames}
+use Rattle.frame.specs.Frame.{Frame, stopped, rest, fromBegin, frame, handedOnBy, handedOn, Screen, frames, fromReset}
 use Rattle.frame.specs.HandedOn.{latchAfter, ifRefused, accepted, kept}
 use Rattle.frame.proofs.Frames.{induction}
 
@@ -68,3 +68,8 @@ refused-leave latch (d ∷ ds) =
     by-refusal (some r) e h k =
         let same : handedOn latch f ≡ latch = ap (λ (x : Option Refusal). handedOnBy latch x (f .state)) e in
         if-some _ _ e ∙ ap (λ (l : ℕ). accepted (frames l ds)) same ∙ h ∙ sym (ap (frames latch) (if-some _ _ e))
+
+-- the first frame after reset
+pub first-frame : (d : Screen) (ds : List Screen) → let f = frame 0 (d .settings) (d .memory) in fromReset (d ∷ ds) ≡ f ∷ frames (handedOn 0 f) ds
+unfolding frames
+first-frame d ds = refl

@@ -78,11 +78,10 @@ pub fn handed_on(latch: u16, state: State) -> u16
     ensures { λ r. ⌜ r ≡ latchAfter latch state ⌝ }
     ensures { λ r. ⌜ HandsOn latch state r ⌝ }
 {
-    if state.fields.left == 0 {
-        state.latch
-    } else {
-        latch
+    if 0 < state.fields.left {
+        return latch;
     }
+    state.latch
 }
 
 // A count of words that a frame can have, so that a row's words can be added.
