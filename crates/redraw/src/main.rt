@@ -41,7 +41,7 @@ fn main() {
 fn redraw_frame(n: u16, mem: &[u16], count: report::Count) -> report::Count {
     report::frame(n);
     let settings = frames::settings(n);
-    match start::start(settings, mem) {
+    match start::start(settings, mem, 0) {
         StartAnswer::Refused(r) => {
             report::refused(r);
             count
