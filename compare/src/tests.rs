@@ -598,7 +598,7 @@ fn frames_in_turn() {
         .write(0x200, &[0x4142])
         .write(0x210, &[0x8043])
         .write(0x300, &[0x8002]);
-    let mut draw = |board: &Board, latch| {
+    let draw = |board: &Board, latch| {
         let mut rows = Vec::new();
         let ended = board.frame_from(&settings, latch, &mut rows);
         (ended.unwrap_or(latch), rows)
