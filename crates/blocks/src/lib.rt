@@ -140,7 +140,12 @@ pub fn row_block(mem: &[u16], linear: bool, p: Pointer, segments: &mut [u16; 75]
 }
 
 // The window row block that a pointer leads to, with the words of its segments in `segments`.
-pub fn window_row_block(mem: &[u16], linear: bool, p: Pointer, segments: &mut [u16; 75]) -> BlockRead
+pub fn window_row_block(
+    mem: &[u16],
+    linear: bool,
+    p: Pointer,
+    segments: &mut [u16; 75],
+) -> BlockRead
     ensures { λ r. ⌜ blockRead linear r (now (segments .exit)) ≡ run (now (mem .entry)) (windowRowAt linear p) ⌝ }
 {
     block_at(mem, linear, false, p, segments)

@@ -1,14 +1,14 @@
 // The draw program: a script on standard input, and on standard output the rows that it draws.
+use frame::BeginAnswer;
+use frame::Progress;
+use frame::StepAnswer;
 use libc::STDIN_FILENO;
 use libc::STDOUT_FILENO;
 use memory::Refusal;
 use row::DrawnRow;
-use row::RowAnswer;
-use start::StartAnswer;
 use script::Script;
 use script::Step;
 use settings::Settings;
-use state::State;
 
 // Memory is 16,384 words.
 fn main() {
@@ -54,38 +54,35 @@ fn read_some(s: Script, mem: &mut [u16]) -> Step {
 
 // A frame: its start, then its rows.
 fn draw(settings: Settings, mem: &[u16]) {
-    match start::start(settings, mem) {
-        StartAnswer::Refused(refusal) => print_refusal(refusal),
-        StartAnswer::Accepted(started) => {
-            let state = started.state;
-            draw_rows(settings, mem, state, started.words)
-        }
+    match frame::begin(settings, mem) {
+        BeginAnswer::Refused(refusal) => print_refusal(refusal),
+        BeginAnswer::Begun(progress) => draw_rows(settings, mem, progress),
     }
 }
 
-// The rows, while lines are left; a frame has 4,095 lines at most, and each row takes one or more. Then the end line, or
-// a refusal in its place.
-fn draw_rows(settings: Settings, mem: &[u16], first: State, start_words: u32) {
-    let mut state = first;
+// The rows, until the frame has ended: then the end line, or a refusal in its place.
+fn draw_rows(settings: Settings, mem: &[u16], first: Progress) {
+    let mut progress = first;
     let mut cells = [0u32; 132];
-    let mut rows: u64 = 0;
-    let mut words = start_words as u64;
-    while (0 < state.fields.left) & (rows < 4095) {
-        match row::row(settings, mem, state, &mut cells) {
-            RowAnswer::Refused(refusal) => {
+    loop {
+        match frame::step(settings, mem, progress, &mut cells) {
+            StepAnswer::Refused(refusal) => {
                 print_refusal(refusal);
                 return;
             }
-            RowAnswer::Accepted(drawn) => {
-                print_row(settings, drawn, &cells);
-                words += drawn.words as u64;
-                rows += 1;
-                let next = drawn.next;
-                state = next;
+            StepAnswer::Ended { rows, words } => {
+                print_end(rows as u64, words as u64);
+                return;
+            }
+            StepAnswer::Drawn {
+                row,
+                progress: next,
+            } => {
+                print_row(settings, row, &cells);
+                progress = next;
             }
         }
     }
-    print_end(rows, words)
 }
 
 fn print_row(settings: Settings, row: DrawnRow, cells: &[u32; 132]) {

@@ -85,13 +85,7 @@ pub fn measure_segments(linear: bool, hidden: bool, words: &[u16; 75], count: u8
 }
 
 // Is a place a boundary of `count` segments?
-pub fn is_boundary(
-    linear: bool,
-    hidden: bool,
-    words: &[u16; 75],
-    count: u8,
-    place: usize,
-) -> bool
+pub fn is_boundary(linear: bool, hidden: bool, words: &[u16; 75], count: u8, place: usize) -> bool
     ensures { λ r. ⌜ r ≡ boundary hidden 0 (segmentsOf linear count (now (words .entry))) place ⌝ }
 {
     let n = count as usize;

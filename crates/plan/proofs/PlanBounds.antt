@@ -1,7 +1,7 @@
 -- How many words a plan reads at most, and what holds of it.
-use mathlib.Core.Path.{_≡_}
+use mathlib.Core.Path.{_≡_, refl}
 use mathlib.Core.Bool.{Bool, true}
-use Prim.Native.Nat.{ℕ, _≤_, _<_}
+use Prim.Native.Nat.{ℕ, _+_, _≤_, _<_}
 use native.Mathlib.Omega.{arith}
 use lib.Dec.{ltb, leb}
 use borrow.Author.Tests.{leb-true, ltb-true}
@@ -13,17 +13,19 @@ use Rattle.blocks.specs.declared.RowFormat.{RowFormat}
 use Rattle.blocks.proofs.BlockBounds.{Few, row-block-reads, redefined-reads, due-reads}
 use Rattle.state.specs.declared.Fields.{Fields}
 use Rattle.state.specs.State.{inRange}
-use Rattle.state.proofs.StateLaws.{placed, has-line}
+use Rattle.state.proofs.StateLaws.{placed, lines-within, has-line}
 use Rattle.layout.specs.Layout.{total, allFit, edgesFit}
 use Rattle.layout.proofs.OverlayBounds.{Inside, overlaid-reads}
 use Rattle.plan.specs.Plan.{Plan, nextFields, BackgroundRow, backgroundBlock, backgroundRow, plan}
 
--- what the cells need of a plan, and that the next row has fewer lines left
+-- what the cells need of a plan, and how the next row stands: one number further, within 4095, with fewer lines left
 pub record Sound (hidden : Bool) (f : Fields) (p : Plan) : Type 0 where
   pub few : Few 15 (p .segments)
   pub narrow : total hidden (p .segments) ≤ 132
   pub inside : Inside hidden (p .overlay)
   pub edges : edgesFit hidden (p .overlay) (p .segments) ≡ true
+  pub within : f .row + f .left ≤ 4095
+  pub numbered : p .next .row ≡ f .row + 1
   pub fewer : p .next .left < f .left
 
 -- a row's segments are few, their widths within 132, and it has a scan line where the state has one
@@ -59,4 +61,13 @@ plan-reads σ f =
     bind {n = 78} {k = 0} (omega arith) (overlaid-reads σ (f .row) w hw) λ o ho.
     bind {n = 0} {k = 0} (omega arith) (check-reads 12 (edgesFit (σ .hidden) (o .overlay) (g .block .segments))) λ _ h₁₂.
     let some = ltb-true 0 (f .left) h₄ in
-    dones (record { few = hg .few; narrow = hg .narrow; inside = ho; edges = h₁₂; fewer = omega (arith, hg .tall (has-line f h₃)) })
+    dones
+    (record {
+      few = hg .few;
+      narrow = hg .narrow;
+      inside = ho;
+      edges = h₁₂;
+      within = lines-within f h₃;
+      numbered = refl;
+      fewer = omega (arith, hg .tall (has-line f h₃));
+    })

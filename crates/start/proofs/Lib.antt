@@ -1,1 +1,2 @@
 mod StartLaws
+pub mod StartBound

@@ -1,4 +1,4 @@
--- What a state in range tells: its window is in order, and a row has a scan line.
+-- What a state in range tells: its window is in order, its lines are within 4095, and a row has a scan line.
 use mathlib.Core.Path.{_≡_}
 use mathlib.Core.Bool.{true, _&&_}
 use Prim.Native.Nat.{_+_, _≤_}
@@ -25,6 +25,13 @@ unfolding inRange
 placed f h =
     window-placed (f .window)
     (both (leb (f .row + f .left) 4095 && formatInRange (f .format) && isAddress (f .next .address)) (windowInRange (f .window)) h .1)
+
+-- a state in range has its lines within 4095
+pub lines-within : (f : Fields) → inRange f ≡ true → f .row + f .left ≤ 4095
+unfolding inRange
+lines-within f h =
+    let formatted = both _ (isAddress (f .next .address)) (both _ (windowInRange (f .window)) h .0) .0 in
+    leb-true (f .row + f .left) 4095 (both (leb (f .row + f .left) 4095) (formatInRange (f .format)) formatted .0)
 
 -- a state in range has a scan line to a row at least
 pub has-line : (f : Fields) → inRange f ≡ true → 1 ≤ f .format .lines

@@ -3,14 +3,14 @@ ghost use mathlib.Core.Path.{_≡_};
 ghost use Prim.Native.Nat.{_≤_};
 ghost use lib.ListN.{length, take};
 ghost use Rattle.io.specs.Counts.{Counts};
+use frame::BeginAnswer;
+use frame::Progress;
+use frame::StepAnswer;
 use libc::STDOUT_FILENO;
 use memory::Refusal;
 use row::DrawnRow;
-use row::RowAnswer;
-use start::StartAnswer;
 use script::Step;
 use settings::Settings;
-use state::State;
 
 // How far the output agrees with the stored bytes, and whether it differs there.
 struct Place {
@@ -146,44 +146,34 @@ fn draw_script(bytes: &[u8], want: &[u8]) -> Place {
 
 // A frame: its start, then its rows.
 fn draw(settings: Settings, mem: &[u16], want: &[u8]) -> Place {
-    match start::start(settings, mem) {
-        StartAnswer::Refused(refusal) => with_refusal(beginning(), refusal, want),
-        StartAnswer::Accepted(started) => {
-            let state = started.state;
-            draw_rows(settings, mem, state, started.words, want)
-        }
+    match frame::begin(settings, mem) {
+        BeginAnswer::Refused(refusal) => with_refusal(beginning(), refusal, want),
+        BeginAnswer::Begun(progress) => draw_rows(settings, mem, progress, want),
     }
 }
 
-// The rows, while lines are left; a frame has 4,095 lines at most, and each row takes one or more. Then the end line, or
-// a refusal in its place.
-fn draw_rows(
-    settings: Settings,
-    mem: &[u16],
-    first: State,
-    start_words: u32,
-    want: &[u8],
-) -> Place {
+// The rows, until the frame has ended: then the end line, or a refusal in its place.
+fn draw_rows(settings: Settings, mem: &[u16], first: Progress, want: &[u8]) -> Place {
     let mut place = beginning();
-    let mut state = first;
+    let mut progress = first;
     let mut cells = [0u32; 132];
-    let mut rows: u64 = 0;
-    let mut words = start_words as u64;
-    while (0 < state.fields.left) & (rows < 4095) {
-        match row::row(settings, mem, state, &mut cells) {
-            RowAnswer::Refused(refusal) => {
+    loop {
+        match frame::step(settings, mem, progress, &mut cells) {
+            StepAnswer::Refused(refusal) => {
                 return with_refusal(place, refusal, want);
             }
-            RowAnswer::Accepted(drawn) => {
-                place = with_row(place, settings, drawn, &cells, want);
-                words += drawn.words as u64;
-                rows += 1;
-                let next = drawn.next;
-                state = next;
+            StepAnswer::Ended { rows, words } => {
+                return with_end(place, rows as u64, words as u64, want);
+            }
+            StepAnswer::Drawn {
+                row,
+                progress: next,
+            } => {
+                place = with_row(place, settings, row, &cells, want);
+                progress = next;
             }
         }
     }
-    with_end(place, rows, words, want)
 }
 
 fn beginning() -> Place {
