@@ -1,9 +1,9 @@
 // What a row does to the latch, followed without cells, where no fill run takes a word and every word is there.
 use blocks::FillMode;
 use blocks::Segment;
+use codes::CodeSettings;
 use layout::OverlayHead;
 use layout::Side;
-use codes::CodeSettings;
 ghost use mathlib.Core.Path.{_≡_};
 ghost use Rattle.memory.specs.Word.{if_then_else_};
 ghost use Rattle.blocks.specs.RowBlock.{segmentsOf};

@@ -1,8 +1,8 @@
 // The codes of a segment, and the words of its list.
 use crate::Followed;
 use blocks::Segment;
-use codes::attribute;
 use codes::CodeSettings;
+use codes::attribute;
 ghost use mathlib.Core.Path.{_≡_};
 ghost use Prim.Native.Nat.{_+_, _/_, _≤_};
 ghost use lib.ListN.{length};

@@ -1,3 +1,4 @@
+-- The walk ends at column 132, so the whole array is the cells of the row.
 use mathlib.Core.Path.{_≡_, ap, sym, _∙_}
 use mathlib.Core.List.{List}
 use Prim.Native.Nat.{ℕ}

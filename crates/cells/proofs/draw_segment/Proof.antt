@@ -1,3 +1,4 @@
+-- The codes, up to the segment's width, then its fill run.
 use mathlib.Core.Path.{sym, _∙_}
 use Prim.Native.Nat.{_+_}
 use native.Mathlib.Omega.{arith}

@@ -1,3 +1,4 @@
+-- Each turn examines one code: what is left to examine from here is the whole word's.
 use mathlib.Core.Path.{_≡_, refl, sym, _∙_}
 use mathlib.Core.List.{List, [], _∷_}
 use Prim.Native.Nat.{ℕ, _+_, _-_, _≤_}

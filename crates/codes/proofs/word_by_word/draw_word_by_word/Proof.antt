@@ -1,3 +1,4 @@
+-- Each turn takes one word with its one or two codes: what is left to draw from here is the whole segment's.
 use mathlib.Core.Path.{_≡_, refl, sym, _∙_}
 use Prim.Native.Nat.{_+_, _*_, _≤_}
 use native.Mathlib.Omega.{arith}
