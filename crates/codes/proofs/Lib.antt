@@ -1,2 +1,3 @@
 pub mod CodeBounds
 pub mod CodeLaws
+pub mod CellParts

@@ -29,3 +29,13 @@ sourceNumber Window = 2
 unfoldable pub cell : Source → ℕ → ℕ → ℕ
 cell source attribute code =
     code + attribute % 2 ^ 11 * 2 ^ 8 + attribute / 2 ^ 14 % 2 * 2 ^ 19 + sourceNumber source * 2 ^ 20
+
+-- the parts of a cell: its code, the low eleven bits of its attribute, the number of its source
+abbrev pub codeOf : ℕ → ℕ
+codeOf c = c % 2 ^ 8
+
+abbrev pub attributeOf : ℕ → ℕ
+attributeOf c = c / 2 ^ 8 % 2 ^ 11
+
+abbrev pub sourceOf : ℕ → ℕ
+sourceOf c = c / 2 ^ 20 % 4

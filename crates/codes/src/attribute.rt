@@ -3,7 +3,7 @@ use crate::Source;
 ghost use mathlib.Core.Path.{_≡_};
 ghost use mathlib.Core.Bool.{_||_, not};
 ghost use Prim.Native.Nat.{_≤_};
-ghost use Rattle.codes.specs.Attribute.{invokes, ignores, sourceNumber, cell};
+ghost use Rattle.codes.specs.Attribute.{invokes, ignores, sourceNumber, cell, codeOf, attributeOf};
 
 // Does the code invoke an attribute?
 pub fn invokes(flag: u16, code: u8) -> bool
@@ -20,6 +20,7 @@ pub fn is_shown(hidden: bool, attribute: u16) -> bool
     hidden | !memory::bit_13(attribute)
 }
 
+// The cell of a character or of fill.
 pub fn cell(source: Source, attribute: u16, code: u8) -> u32
     ensures { λ r. ⌜ r ≡ cell source attribute code ⌝ }
 {
@@ -27,6 +28,20 @@ pub fn cell(source: Source, attribute: u16, code: u8) -> u32
         + attribute as u32 % 2048 * 256
         + attribute as u32 / 16384 % 2 * 524288
         + source_number(source) * 1048576
+}
+
+// The code of a cell.
+pub fn code_of(cell: u32) -> u8
+    ensures { λ r. ⌜ r ≡ codeOf cell ⌝ }
+{
+    (cell % 256) as u8
+}
+
+// The low eleven bits of a cell's attribute.
+pub fn attribute_of(cell: u32) -> u16
+    ensures { λ r. ⌜ r ≡ attributeOf cell ⌝ }
+{
+    (cell / 256 % 2048) as u16
 }
 
 fn source_number(source: Source) -> u32

@@ -9,7 +9,9 @@ use settings::Settings;
 use state::Fields;
 use state::State;
 ghost use mathlib.Core.Path.{_≡_};
+ghost use mathlib.Core.Bool.{_&&_};
 ghost use lib.ListN.{length};
+ghost use lib.Dec.{eqb};
 ghost use Rattle.memory.specs.Reading.{given, run};
 ghost use Rattle.state.specs.State.{stateOf};
 ghost use Rattle.plan.specs.Plan.{plan};
@@ -104,8 +106,8 @@ fn draw_planned(
 }
 
 // The answer of an accepted row.
-fn row_answer(number: u16, p: PlanHead, latch: u16, words: u32) -> RowAnswer
-    ensures { λ r. ⌜ r ≡ answerOf number (p .lines) (p .format) words (stateOf latch (p .next)) ⌝ }
+fn row_answer(number: u16, p: PlanHead, latch: u16, read: u32) -> RowAnswer
+    ensures { λ r. ⌜ r ≡ answerOf number (p .lines) (p .format) read (stateOf latch (p .next)) ⌝ }
 {
     let format = p.format;
     let fields = p.next;
@@ -114,7 +116,7 @@ fn row_answer(number: u16, p: PlanHead, latch: u16, words: u32) -> RowAnswer
         number,
         lines: p.lines,
         format,
-        words,
+        words: read,
         next,
     })
 }
@@ -125,9 +127,16 @@ fn mark_cursor(settings: Settings, fields: Fields, cells: &mut [u32])
     ensures { λ _. ⌜ now (cells .exit) ≡ withCursor settings fields (now (cells .entry)) ⌝ }
 {
     let x = fields.cursor.x as usize;
-    if settings.cursor & (fields.cursor.y as u16 == fields.row) & (x < 132) {
+    if is_cursor_row(settings.cursor, fields) & (x < 132) {
         cells[x] = cells[x] | 4194304;
     }
+}
+
+// Is the absolute cursor enabled and on this row?
+fn is_cursor_row(enabled: bool, fields: Fields) -> bool
+    ensures { λ r. ⌜ r ≡ enabled && eqb (fields .cursor .y) (fields .row) ⌝ }
+{
+    enabled & (fields.cursor.y as u16 == fields.row)
 }
 
 // `from` copied into `into`.

@@ -1,0 +1,27 @@
+-- A cell's parts are read back as they were put in.
+use mathlib.Core.Path.{_≡_}
+use Prim.Native.Nat.{ℕ, _%_, _≤_, _<_, _^_}
+use native.Mathlib.Omega.{arith}
+use lib.Dec.{lit≤}
+use Rattle.codes.specs.declared.Source.{Source}
+use Rattle.codes.specs.declared.Source.the-variants.{Fill, Background, Window}
+use Rattle.codes.specs.Attribute.{sourceNumber, cell, codeOf, attributeOf, sourceOf}
+
+source-small : (source : Source) → sourceNumber source ≤ 2
+unfolding sourceNumber
+source-small Fill = lit≤ tt
+source-small Background = lit≤ tt
+source-small Window = lit≤ tt
+
+module _ (source : Source) (attribute code : ℕ) (h : code < 256) where
+  pub code-back : codeOf (cell source attribute code) ≡ code
+  unfolding cell
+  code-back = omega (arith, h)
+
+  pub attribute-back : attributeOf (cell source attribute code) ≡ attribute % 2 ^ 11
+  unfolding cell
+  attribute-back = omega (arith, h)
+
+  pub source-back : sourceOf (cell source attribute code) ≡ sourceNumber source
+  unfolding cell
+  source-back = omega (arith, h, source-small source)
