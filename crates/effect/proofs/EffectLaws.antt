@@ -27,7 +27,8 @@ use Rattle.effect.specs.declared.Part.{Part}
 use Rattle.effect.specs.declared.Part.the-variants.{Keep, Set}
 use Rattle.effect.specs.declared.NextFields.{NextFields}
 use Rattle.effect.specs.declared.NextFields.the-variants.{Reached}
-use Rattle.effect.specs.Effect.{partOf, nextOf, latchWith, outcomeFor, effectCall, sameParts, partDrawn, nextDrawn}
+use Rattle.effect.specs.Effect.{partOf, nextOf, latchWith, outcomeFor, effectCall}
+use Rattle.effect.specs.Answers.{sameParts, partDrawn, nextDrawn}
 
 module _ (σ : Settings) (m : List ℕ) (f : Fields) where
   pub plan-refused : {x : Fault} → refused x ≡ run m (plan σ f) → (ignore : Bool) → refused x ≡ outcomeFor σ m f ignore

@@ -8,8 +8,6 @@ use Rattle.settings.specs.declared.Settings.{Settings}
 use Rattle.state.specs.declared.Fields.{Fields}
 use Rattle.state.specs.State.{stateOf}
 use Rattle.row.specs.Row.{Row, row}
-use Rattle.cells.specs.declared.CellsDrawn.{CellsDrawn}
-use Rattle.cells.specs.declared.CellsDrawn.the-variants as Cells
 use Rattle.effect.specs.declared.Part.{Part}
 use Rattle.effect.specs.declared.Part.the-variants.{Keep, Set, Refuse}
 use Rattle.effect.specs.declared.NextFields.{NextFields}
@@ -45,22 +43,3 @@ effectOf f clear set = record {
 -- "A row's effect doesn't depend on the state's latch; it takes a row's checks but 1"
 unfoldable pub effectCall : Settings → List ℕ → Fields → EffectAnswer
 effectCall σ m f = effectOf f (outcomeFor σ m f false) (outcomeFor σ m f true)
-
--- the answer of a row that is accepted and has one part for either latch
-abbrev pub sameParts : Part → Fields → EffectAnswer
-sameParts part next = record { effect = record { clear = part; set = part }; next = Reached next }
-
--- the part and the next fields that the cells of a planned row tell, and the answer
-abbrev pub partDrawn : Fields → CellsDrawn → Part
-partDrawn f (Cells.Refused x) = Refuse (refusal (f .row) x)
-partDrawn f (Cells.Accepted latch latched n) = if latched then Set latch else Keep
-
-abbrev pub nextDrawn : Fields → CellsDrawn → NextFields → NextFields
-nextDrawn reached (Cells.Accepted latch latched n) otherwise = Reached reached
-nextDrawn reached (Cells.Refused x) otherwise = otherwise
-
-abbrev pub effectDrawn : Fields → Fields → CellsDrawn → CellsDrawn → EffectAnswer
-effectDrawn f reached clear set = record {
-  effect = record { clear = partDrawn f clear; set = partDrawn f set };
-  next = nextDrawn reached clear (nextDrawn reached set Unreached);
-}

@@ -1,3 +1,4 @@
 pub mod Effect
 pub mod Join
 pub mod Demand
+pub mod Answers

@@ -14,7 +14,8 @@ ghost use Rattle.state.specs.State.{stateOf};
 ghost use Rattle.row.specs.Row.{row};
 ghost use Rattle.effect.specs.declared.NextFields.{NextFields};
 ghost use Rattle.effect.specs.Join.{partFor, setThen, joinPart, join, apply};
-ghost use Rattle.effect.specs.Effect.{partOf, nextOf, effectCall, sameParts, partDrawn, nextDrawn, effectDrawn};
+ghost use Rattle.effect.specs.Effect.{partOf, nextOf, effectCall};
+ghost use Rattle.effect.specs.Answers.{sameParts, partDrawn, nextDrawn, effectDrawn};
 
 // What a row does to the latch: keep it, set it to a word, or refuse.
 pub enum Part {
@@ -225,7 +226,7 @@ fn join_part(p: Part, ignore: bool, next: Effect) -> Part
     ensures { λ r. ⌜ r ≡ joinPart p ignore next ⌝ }
 {
     match p {
-        Part::Refuse(r) => Part::Refuse(r),
+        Part::Refuse(first) => Part::Refuse(first),
         Part::Keep => part_for(ignore, next),
         Part::Set(w) => {
             let ignores = memory::bit_13(w);

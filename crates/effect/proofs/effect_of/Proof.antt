@@ -2,7 +2,7 @@ use mathlib.Core.Path.{ap, ap₂, _∙_}
 use Rattle.effect.specs.declared.Part.{Part}
 use Rattle.effect.specs.declared.Effect.{Effect}
 use Rattle.effect.specs.declared.NextFields.{NextFields}
-use Rattle.effect.specs.Effect.{nextDrawn}
+use Rattle.effect.specs.Answers.{nextDrawn}
 use borrow.Author.Needs.{needs}
 use Rattle.effect.proofs.effect_of.Statement.{statement}
 use Rattle.effect.proofs.effect_of.Tie as tie

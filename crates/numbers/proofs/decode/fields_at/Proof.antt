@@ -6,7 +6,7 @@ use Rattle.numbers.proofs.decode.fields_at.Tie as tie
 
 returns : tie.Need-returns
 unfolding fieldsAt
-returns c = rw (c .before .before .before .window-at .ensures, c .before .before .before .before .format-at .ensures)
+returns c = rw (c .before .before .window-at .ensures, c .before .before .before .before .format-at .ensures)
 
 pub fields-at-spec : {M : Type 1} → statement M
 fields-at-spec =
@@ -20,8 +20,8 @@ fields-at-spec =
     (λ c. search needs)
     (λ c. search needs)
     (λ c κs. search needs)
-    (λ c κs. search needs)
     (λ c. search needs)
+    (λ c κs. search needs)
     (λ c. search needs)
     (λ c. search needs)
     (λ c. search needs)

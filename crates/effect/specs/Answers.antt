@@ -1,0 +1,30 @@
+-- What the functions of this crate give, as what the rules give: no rules of their own.
+use Rattle.memory.specs.Word.{if_then_else_}
+use Rattle.memory.specs.Reading.{refusal}
+use Rattle.state.specs.declared.Fields.{Fields}
+use Rattle.cells.specs.declared.CellsDrawn.{CellsDrawn}
+use Rattle.cells.specs.declared.CellsDrawn.the-variants as Cells
+use Rattle.effect.specs.declared.Part.{Part}
+use Rattle.effect.specs.declared.Part.the-variants.{Keep, Set, Refuse}
+use Rattle.effect.specs.declared.NextFields.{NextFields}
+use Rattle.effect.specs.declared.NextFields.the-variants.{Reached, Unreached}
+use Rattle.effect.specs.declared.EffectAnswer.{EffectAnswer}
+
+-- the answer of a row that is accepted and has one part for either latch
+abbrev pub sameParts : Part → Fields → EffectAnswer
+sameParts part next = record { effect = record { clear = part; set = part }; next = Reached next }
+
+-- the part and the next fields that the cells of a planned row tell, and the answer
+abbrev pub partDrawn : Fields → CellsDrawn → Part
+partDrawn f (Cells.Refused x) = Refuse (refusal (f .row) x)
+partDrawn f (Cells.Accepted latch latched n) = if latched then Set latch else Keep
+
+abbrev pub nextDrawn : Fields → CellsDrawn → NextFields → NextFields
+nextDrawn reached (Cells.Accepted latch latched n) otherwise = Reached reached
+nextDrawn reached (Cells.Refused x) otherwise = otherwise
+
+abbrev pub effectDrawn : Fields → Fields → CellsDrawn → CellsDrawn → EffectAnswer
+effectDrawn f reached clear set = record {
+  effect = record { clear = partDrawn f clear; set = partDrawn f set };
+  next = nextDrawn reached clear (nextDrawn reached set Unreached);
+}
