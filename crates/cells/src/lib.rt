@@ -71,7 +71,7 @@ pub fn draw_cells(
         words,
         cells,
     ) {
-        Drawn::Refused(fault) => CellsDrawn::Refused(fault),
+        Drawn::Refused { number, address } => { CellsDrawn::Refused(Fault { number, address }) },
         Drawn::Accepted { pen, words: read } => CellsDrawn::Accepted {
             latch: pen.latch,
             latched: pen.latched,
@@ -176,7 +176,7 @@ fn draw_around(
         words,
         cells,
     ) {
-        Drawn::Refused(fault) => Drawn::Refused(fault),
+        Drawn::Refused { number, address } => Drawn::Refused { number, address },
         Drawn::Accepted {
             pen: before,
             words: read,
@@ -188,7 +188,7 @@ fn draw_around(
             };
             let begun = pens::with_list(memory::Pointer { address: 0 }, before);
             match draw_run(mem, settings, fill, within, window, n, begun, read, cells) {
-                Drawn::Refused(fault) => Drawn::Refused(fault),
+                Drawn::Refused { number, address } => Drawn::Refused { number, address },
                 Drawn::Accepted {
                     pen: after,
                     words: so_far,
@@ -246,7 +246,7 @@ fn draw_run(
         words,
         cells,
     ) {
-        Drawn::Refused(fault) => Drawn::Refused(fault),
+        Drawn::Refused { number, address } => Drawn::Refused { number, address },
         Drawn::Accepted {
             pen: after,
             words: read,
@@ -283,7 +283,7 @@ fn draw_side(
         let w = layout::width(settings.hidden, g);
         let chosen = layout::on_side(side, at, w);
         match draw_chosen(mem, settings, fill, source, chosen, g, current, read, cells) {
-            Drawn::Refused(fault) => return Drawn::Refused(fault),
+            Drawn::Refused { number, address } => return Drawn::Refused { number, address },
             Drawn::Accepted {
                 pen: after,
                 words: so_far,
@@ -354,7 +354,7 @@ fn draw_segment(
         words,
         cells,
     ) {
-        Drawn::Refused(fault) => Drawn::Refused(fault),
+        Drawn::Refused { number, address } => Drawn::Refused { number, address },
         Drawn::Accepted {
             pen: after,
             words: read,

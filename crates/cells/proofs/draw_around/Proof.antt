@@ -54,7 +54,7 @@ returns c =
     let a = c .before .before .before .before .before .before .before .before .before .args in
     let r = c .before .before .before .before .before .draw-run in (
       (omega arith, omega arith),
-      sym (bind-refused (a .words) (a .mem .now) _ _ (sym (rw (c .before .fault .given .1) at (r .ensures .1)))),
+      sym (bind-refused (a .words) (a .mem .now) _ _ (sym (rw (c .before .number .given .1) at (r .ensures .1)))),
     )
 
 returns-2 : tie.Need-returns-2
@@ -66,7 +66,7 @@ returns-2 c =
       (omega arith, omega arith),
       sym (bind-given (a .words) (a .mem .now) _ _ (sym (rw (c .before .before .before .before .before .before .before .before .before .before2 .given .1) at (r .ensures .1)))
           ∙ bind-refused _ (a .mem .now) _ _
-          (sym (rw (c .before .fault2 .given .1, c .before .before .before .before .before .before .before .with-list .ensures, whole-all (a .settings .hidden) 0 (segmentsOf (a .settings .linear) (a .n) (a .window .now))) at (s .ensures .1)))),
+          (sym (rw (c .before .number2 .given .1, c .before .before .before .before .before .before .before .with-list .ensures, whole-all (a .settings .hidden) 0 (segmentsOf (a .settings .linear) (a .n) (a .window .now))) at (s .ensures .1)))),
     )
 
 returns-3 : tie.Need-returns-3

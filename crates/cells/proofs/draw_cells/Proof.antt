@@ -12,7 +12,7 @@ use Rattle.cells.proofs.draw_cells.Statement.{statement}
 use Rattle.cells.proofs.draw_cells.Tie as tie
 
 returns : tie.Need-returns
-returns c = ap finish (rw (c .before .fault .given .1) at (c .before .before .before .before .before .walk-cells .ensures .1))
+returns c = ap finish (rw (c .before .number .given .1) at (c .before .before .before .before .before .walk-cells .ensures .1))
 
 returns-2 : tie.Need-returns-2
 returns-2 c =

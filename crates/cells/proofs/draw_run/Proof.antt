@@ -24,7 +24,7 @@ returns c =
     let a = c .before .before .before .before .before .before .before .before .before .args in
     let r = c .before .before .before .before .before .draw-side in (
       (omega arith, omega arith),
-      sym (bind-refused (a .words) (a .mem .now) _ _ (sym (rw (c .before .fault .given .1) at (r .ensures .1)))),
+      sym (bind-refused (a .words) (a .mem .now) _ _ (sym (rw (c .before .number .given .1) at (r .ensures .1)))),
     )
 
 returns-2 : tie.Need-returns-2

@@ -45,7 +45,7 @@ returns c =
       sym (l .inv .5
           ∙ side-refused (l .read) (a .mem .now) (a .settings .linear) (a .settings .hidden) (a .stretch .side) (l .at) (a .count - l .i) (l .i) (a .segments .now)
           (segment (a .settings) (a .fill) (a .stretch .source)) (soFar (l .current) (l .cells)) (omega arith)
-          (sym (rw (c .before .fault .given .1, c .before .before .before .before .before .before .before .on-side .ensures, c .before .before .before .before .before .before .before .before .width .ensures, c .before .before .before .before .before .before .before .before .before .segment-at .ensures) at (c .before .before .before .before .before .draw-chosen .ensures .1)))),
+          (sym (rw (c .before .number .given .1, c .before .before .before .before .before .before .before .on-side .ensures, c .before .before .before .before .before .before .before .before .width .ensures, c .before .before .before .before .before .before .before .before .before .segment-at .ensures) at (c .before .before .before .before .before .draw-chosen .ensures .1)))),
     )
 
 add-at : tie.Need-add-at Inv-loop μ-loop

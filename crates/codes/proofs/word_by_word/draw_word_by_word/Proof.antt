@@ -45,7 +45,7 @@ returns-2 c =
       sym (l .inv .3
           ∙ codes-refused (l .read) (a .mem .now) (a .settings) (a .room .source) (a .room .end) (l .at) (soFar (l .current) (l .cells)) _
           (sym (c .before .before .before .before .before .before .before .before .before .before .before .word-at .ensures) ∙ c .before .before .before .before .before .before .before .before .before .w .given .1) (l .left) (c .before .before .before .before .before .before .before .before .before .before .before .before .loop-test .taken)
-          (sym (rw (c .before .fault .given .1, c .before .before .before .before .before .before .before .codes-in-word .ensures) at (c .before .before .before .before .before .draw-word .ensures .1)))),
+          (sym (rw (c .before .number .given .1, c .before .before .before .before .before .before .before .codes-in-word .ensures) at (c .before .before .before .before .before .draw-word .ensures .1)))),
     )
 
 sub-left : tie.Need-sub-left Inv-loop μ-loop
