@@ -35,6 +35,13 @@ pub enum CellsDrawn {
     Refused(Fault),
 }
 
+// A stretch of a row: the segments on a side, their source, and the column up to which the fill run after them goes.
+struct Stretch {
+    source: Source,
+    side: Side,
+    end: usize,
+}
+
 // The cells of a row from a latch, in order, as its plan says: the background's segments in `back`, a window's in `window`.
 pub fn draw_cells(
     mem: &[u16],
@@ -64,7 +71,7 @@ pub fn draw_cells(
         words,
         cells,
     ) {
-        Drawn::Refused(fault) => CellsDrawn::Refused(fault),
+        Drawn::Refused { number, address } => { CellsDrawn::Refused(Fault { number, address }) },
         Drawn::Accepted { pen, words: read } => CellsDrawn::Accepted {
             latch: pen.latch,
             latched: pen.latched,
@@ -104,19 +111,14 @@ fn walk_cells(
 {
     let pen = pens::blank(latch);
     match overlay {
-        OverlayHead::NoOverlay => draw_run(
-            mem,
-            settings,
-            fill,
-            Source::Background,
-            Side::Whole,
-            back,
-            count,
-            132,
-            pen,
-            words,
-            cells,
-        ),
+        OverlayHead::NoOverlay => {
+            let stretch = Stretch {
+                source: Source::Background,
+                side: Side::Whole,
+                end: 132,
+            };
+            draw_run(mem, settings, fill, stretch, back, count, pen, words, cells)
+        }
         OverlayHead::Over {
             first,
             end,
@@ -158,41 +160,35 @@ fn draw_around(
     ensures { λ r. ⌜ Reached 132 (words + 400000) r ⌝ }
     ensures { λ r. ⌜ drawn r (now (cells .exit)) ≡ runFrom words (now (mem .entry)) (rowCells settings fill (over first end (segmentsOf (settings .linear) n (now (window .entry)))) (segmentsOf (settings .linear) count (now (back .entry))) (soFar pen (now (cells .entry)))) ⌝ }
 {
-    let source = Source::Background;
-    let side = Side::Before(first);
+    let before_it = Stretch {
+        source: Source::Background,
+        side: Side::Before(first),
+        end: first,
+    };
     match draw_run(
         mem,
         settings,
         fill,
-        source,
-        side,
+        before_it,
         back,
         count,
-        first,
         pen,
         words,
         cells,
     ) {
-        Drawn::Refused(fault) => Drawn::Refused(fault),
+        Drawn::Refused { number, address } => Drawn::Refused { number, address },
         Drawn::Accepted {
             pen: before,
             words: read,
         } => {
-            let begun = pens::with_list(memory::Pointer { address: 0 }, before);
-            match draw_run(
-                mem,
-                settings,
-                fill,
-                Source::Window,
-                Side::Whole,
-                window,
-                n,
+            let within = Stretch {
+                source: Source::Window,
+                side: Side::Whole,
                 end,
-                begun,
-                read,
-                cells,
-            ) {
-                Drawn::Refused(fault) => Drawn::Refused(fault),
+            };
+            let begun = pens::with_list(memory::Pointer { address: 0 }, before);
+            match draw_run(mem, settings, fill, within, window, n, begun, read, cells) {
+                Drawn::Refused { number, address } => Drawn::Refused { number, address },
                 Drawn::Accepted {
                     pen: after,
                     words: so_far,
@@ -200,15 +196,18 @@ fn draw_around(
                     let list = before.list;
                     let resumed = pens::using_list(list, after);
                     let side = Side::After(first, end);
+                    let after_it = Stretch {
+                        source: Source::Background,
+                        side,
+                        end: 132,
+                    };
                     draw_run(
                         mem,
                         settings,
                         fill,
-                        source,
-                        side,
+                        after_it,
                         back,
                         count,
-                        132,
                         resumed,
                         so_far,
                         cells,
@@ -224,37 +223,34 @@ fn draw_run(
     mem: &[u16],
     settings: CodeSettings,
     fill: FillMode,
-    source: Source,
-    side: Side,
+    stretch: Stretch,
     segments: &[u16; 75],
     count: u8,
-    end: usize,
     pen: Pen,
     words: u32,
     cells: &mut [u32],
 ) -> Drawn
-    requires { ⌜ (end ≤ length (now cells)) × (words ≤ 3000000000) ⌝ }
-    requires { ⌜ pen .column + total (settings .hidden) (segmentsOn side (settings .hidden) 0 (segmentsOf (settings .linear) count (now segments))) ≤ end ⌝ }
-    ensures { λ r. ⌜ Reached end (words + 131000) r ⌝ }
-    ensures { λ r. ⌜ drawn r (now (cells .exit)) ≡ runFrom words (now (mem .entry)) (segmentsTo settings fill source (segmentsOn side (settings .hidden) 0 (segmentsOf (settings .linear) count (now (segments .entry)))) end (soFar pen (now (cells .entry)))) ⌝ }
+    requires { ⌜ (stretch .end ≤ length (now cells)) × (words ≤ 3000000000) ⌝ }
+    requires { ⌜ pen .column + total (settings .hidden) (segmentsOn (stretch .side) (settings .hidden) 0 (segmentsOf (settings .linear) count (now segments))) ≤ stretch .end ⌝ }
+    ensures { λ r. ⌜ Reached (stretch .end) (words + 131000) r ⌝ }
+    ensures { λ r. ⌜ drawn r (now (cells .exit)) ≡ runFrom words (now (mem .entry)) (segmentsTo settings fill (stretch .source) (segmentsOn (stretch .side) (settings .hidden) 0 (segmentsOf (settings .linear) count (now (segments .entry)))) (stretch .end) (soFar pen (now (cells .entry)))) ⌝ }
 {
     match draw_side(
         mem,
         settings,
         fill,
-        source,
-        side,
+        stretch,
         segments,
         count,
         pen,
         words,
         cells,
     ) {
-        Drawn::Refused(fault) => Drawn::Refused(fault),
+        Drawn::Refused { number, address } => Drawn::Refused { number, address },
         Drawn::Accepted {
             pen: after,
             words: read,
-        } => fill::fill_to(mem, settings, fill, end, after, read, cells),
+        } => fill::fill_to(mem, settings, fill, stretch.end, after, read, cells),
     }
 }
 
@@ -263,8 +259,7 @@ fn draw_side(
     mem: &[u16],
     settings: CodeSettings,
     fill: FillMode,
-    source: Source,
-    side: Side,
+    stretch: Stretch,
     segments: &[u16; 75],
     count: u8,
     pen: Pen,
@@ -272,10 +267,12 @@ fn draw_side(
     cells: &mut [u32],
 ) -> Drawn
     requires { ⌜ words ≤ 3000000000 ⌝ }
-    requires { ⌜ pen .column + total (settings .hidden) (segmentsOn side (settings .hidden) 0 (segmentsOf (settings .linear) count (now segments))) ≤ length (now cells) ⌝ }
-    ensures { λ r. ⌜ Reached (pen .column + total (settings .hidden) (segmentsOn side (settings .hidden) 0 (segmentsOf (settings .linear) count (now (segments .entry))))) (words + 512 * count) r ⌝ }
-    ensures { λ r. ⌜ drawn r (now (cells .exit)) ≡ runFrom words (now (mem .entry)) (each (segment settings fill source) (segmentsOn side (settings .hidden) 0 (segmentsOf (settings .linear) count (now (segments .entry)))) (soFar pen (now (cells .entry)))) ⌝ }
+    requires { ⌜ pen .column + total (settings .hidden) (segmentsOn (stretch .side) (settings .hidden) 0 (segmentsOf (settings .linear) count (now segments))) ≤ length (now cells) ⌝ }
+    ensures { λ r. ⌜ Reached (pen .column + total (settings .hidden) (segmentsOn (stretch .side) (settings .hidden) 0 (segmentsOf (settings .linear) count (now (segments .entry))))) (words + 512 * count) r ⌝ }
+    ensures { λ r. ⌜ drawn r (now (cells .exit)) ≡ runFrom words (now (mem .entry)) (each (segment settings fill (stretch .source)) (segmentsOn (stretch .side) (settings .hidden) 0 (segmentsOf (settings .linear) count (now (segments .entry)))) (soFar pen (now (cells .entry)))) ⌝ }
 {
+    let source = stretch.source;
+    let side = stretch.side;
     let n = count as usize;
     let mut current = pen;
     let mut read = words;
@@ -286,7 +283,7 @@ fn draw_side(
         let w = layout::width(settings.hidden, g);
         let chosen = layout::on_side(side, at, w);
         match draw_chosen(mem, settings, fill, source, chosen, g, current, read, cells) {
-            Drawn::Refused(fault) => return Drawn::Refused(fault),
+            Drawn::Refused { number, address } => return Drawn::Refused { number, address },
             Drawn::Accepted {
                 pen: after,
                 words: so_far,
@@ -357,7 +354,7 @@ fn draw_segment(
         words,
         cells,
     ) {
-        Drawn::Refused(fault) => Drawn::Refused(fault),
+        Drawn::Refused { number, address } => Drawn::Refused { number, address },
         Drawn::Accepted {
             pen: after,
             words: read,

@@ -1,3 +1,4 @@
+-- A row has its plan's refusal for either latch; else what is followed, or what its cells tell where that is unclear.
 use mathlib.Core.Path.{ap₂, _∙_}
 use mathlib.Core.Bool.{true, false}
 use Rattle.effect.specs.Effect.{effectOf, effectCall}

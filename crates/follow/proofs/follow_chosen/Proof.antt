@@ -1,3 +1,4 @@
+-- A segment that is not chosen keeps the latch.
 use borrow.Author.Needs.{needs}
 use Rattle.follow.proofs.follow_chosen.Statement.{statement}
 use Rattle.follow.proofs.follow_chosen.Tie as tie

@@ -1,3 +1,4 @@
+-- The parts are followed in the order of the walk; what is followed is then what the drawing makes of the latch.
 use mathlib.Core.Path.{_∙_}
 use Rattle.layout.proofs.LayoutLaws.{whole-all}
 use Rattle.follow.specs.Follow.{overRow, overParts}

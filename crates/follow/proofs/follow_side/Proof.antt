@@ -1,3 +1,4 @@
+-- Each turn passes one segment, followed where it is on the side: what is left to follow from here is the whole side.
 use mathlib.Core.Path.{_≡_, sym, _∙_}
 use Prim.Native.Nat.{_≤_, _-_, _*_}
 use native.Mathlib.Omega.{arith}

@@ -1,3 +1,4 @@
+-- Each case is the definition's.
 use borrow.Author.Needs.{needs}
 use Rattle.follow.proofs.join.Statement.{statement}
 use Rattle.follow.proofs.join.Tie as tie

@@ -1,3 +1,4 @@
+-- Each turn counts both codes of a word: the codes left from here, with the sum so far, are all of them.
 use mathlib.Core.Path.{_≡_}
 use Prim.Native.Nat.{_≤_, _+_, _-_, _*_, _/_}
 use native.Mathlib.Omega.{arith}

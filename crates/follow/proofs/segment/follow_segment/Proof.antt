@@ -1,3 +1,4 @@
+-- The words of the codes, and those they take, each stand one after the other, or it is unclear.
 use mathlib.Core.Path.{sym, _∙_}
 use borrow.Author.Tests.{not-true, not-false}
 use Rattle.memory.proofs.RunLaws.{run-ends}

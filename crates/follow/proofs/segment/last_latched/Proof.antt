@@ -1,3 +1,4 @@
+-- The words are tried from the last one down, and the first found with bit 15 is the last.
 use mathlib.Core.Path.{_≡_, refl, sym, _∙_}
 use Prim.Native.Nat.{_≤_}
 use native.Mathlib.Omega.{arith}

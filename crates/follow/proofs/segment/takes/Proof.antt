@@ -1,3 +1,4 @@
+-- A code that invokes takes one word.
 use mathlib.Core.Path.{refl}
 use lib.Dec.{lit≤}
 use borrow.Author.Needs.{needs}

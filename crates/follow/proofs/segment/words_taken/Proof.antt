@@ -1,3 +1,4 @@
+-- Without a list none; else one for each code that invokes.
 use borrow.Author.Tests.{eq-eqb, ne-eqb}
 use Rattle.follow.specs.Follow.{taken}
 use borrow.Author.Needs.{needs}
