@@ -35,8 +35,10 @@ pub enum CellsDrawn {
     Refused(Fault),
 }
 
-// A stretch of a row: the segments on a side, their source, and the column up to which the fill run after them goes.
+// A stretch of a row: what it is drawn by, the segments on a side, their source, and the column up to which the fill run after them goes.
 struct Stretch {
+    settings: CodeSettings,
+    fill: FillMode,
     source: Source,
     side: Side,
     end: usize,
@@ -113,11 +115,13 @@ fn walk_cells(
     match overlay {
         OverlayHead::NoOverlay => {
             let stretch = Stretch {
+                settings,
+                fill,
                 source: Source::Background,
                 side: Side::Whole,
                 end: 132,
             };
-            draw_run(mem, settings, fill, stretch, back, count, pen, words, cells)
+            draw_run(mem, stretch, back, count, pen, words, cells)
         }
         OverlayHead::Over {
             first,
@@ -161,33 +165,27 @@ fn draw_around(
     ensures { λ r. ⌜ drawn r (now (cells .exit)) ≡ runFrom words (now (mem .entry)) (rowCells settings fill (over first end (segmentsOf (settings .linear) n (now (window .entry)))) (segmentsOf (settings .linear) count (now (back .entry))) (soFar pen (now (cells .entry)))) ⌝ }
 {
     let before_it = Stretch {
+        settings,
+        fill,
         source: Source::Background,
         side: Side::Before(first),
         end: first,
     };
-    match draw_run(
-        mem,
-        settings,
-        fill,
-        before_it,
-        back,
-        count,
-        pen,
-        words,
-        cells,
-    ) {
+    match draw_run(mem, before_it, back, count, pen, words, cells) {
         Drawn::Refused { number, address } => Drawn::Refused { number, address },
         Drawn::Accepted {
             pen: before,
             words: read,
         } => {
             let within = Stretch {
+                settings,
+                fill,
                 source: Source::Window,
                 side: Side::Whole,
                 end,
             };
             let begun = pens::with_list(memory::Pointer { address: 0 }, before);
-            match draw_run(mem, settings, fill, within, window, n, begun, read, cells) {
+            match draw_run(mem, within, window, n, begun, read, cells) {
                 Drawn::Refused { number, address } => Drawn::Refused { number, address },
                 Drawn::Accepted {
                     pen: after,
@@ -197,21 +195,13 @@ fn draw_around(
                     let resumed = pens::using_list(list, after);
                     let side = Side::After(first, end);
                     let after_it = Stretch {
+                        settings,
+                        fill,
                         source: Source::Background,
                         side,
                         end: 132,
                     };
-                    draw_run(
-                        mem,
-                        settings,
-                        fill,
-                        after_it,
-                        back,
-                        count,
-                        resumed,
-                        so_far,
-                        cells,
-                    )
+                    draw_run(mem, after_it, back, count, resumed, so_far, cells)
                 }
             }
         }
@@ -221,8 +211,6 @@ fn draw_around(
 // The segments on a side, then the fill run up to the column `end`.
 fn draw_run(
     mem: &[u16],
-    settings: CodeSettings,
-    fill: FillMode,
     stretch: Stretch,
     segments: &[u16; 75],
     count: u8,
@@ -231,34 +219,26 @@ fn draw_run(
     cells: &mut [u32],
 ) -> Drawn
     requires { ⌜ (stretch .end ≤ length (now cells)) × (words ≤ 3000000000) ⌝ }
-    requires { ⌜ pen .column + total (settings .hidden) (segmentsOn (stretch .side) (settings .hidden) 0 (segmentsOf (settings .linear) count (now segments))) ≤ stretch .end ⌝ }
+    requires { ⌜ pen .column + total (stretch .settings .hidden) (segmentsOn (stretch .side) (stretch .settings .hidden) 0 (segmentsOf (stretch .settings .linear) count (now segments))) ≤ stretch .end ⌝ }
     ensures { λ r. ⌜ Reached (stretch .end) (words + 131000) r ⌝ }
-    ensures { λ r. ⌜ drawn r (now (cells .exit)) ≡ runFrom words (now (mem .entry)) (segmentsTo settings fill (stretch .source) (segmentsOn (stretch .side) (settings .hidden) 0 (segmentsOf (settings .linear) count (now (segments .entry)))) (stretch .end) (soFar pen (now (cells .entry)))) ⌝ }
+    ensures { λ r. ⌜ drawn r (now (cells .exit)) ≡ runFrom words (now (mem .entry)) (segmentsTo (stretch .settings) (stretch .fill) (stretch .source) (segmentsOn (stretch .side) (stretch .settings .hidden) 0 (segmentsOf (stretch .settings .linear) count (now (segments .entry)))) (stretch .end) (soFar pen (now (cells .entry)))) ⌝ }
 {
-    match draw_side(
-        mem,
-        settings,
-        fill,
-        stretch,
-        segments,
-        count,
-        pen,
-        words,
-        cells,
-    ) {
+    match draw_side(mem, stretch, segments, count, pen, words, cells) {
         Drawn::Refused { number, address } => Drawn::Refused { number, address },
         Drawn::Accepted {
             pen: after,
             words: read,
-        } => fill::fill_to(mem, settings, fill, stretch.end, after, read, cells),
+        } => {
+            let settings = stretch.settings;
+            let fill = stretch.fill;
+            fill::fill_to(mem, settings, fill, stretch.end, after, read, cells)
+        }
     }
 }
 
 // The segments on a side, one after the other.
 fn draw_side(
     mem: &[u16],
-    settings: CodeSettings,
-    fill: FillMode,
     stretch: Stretch,
     segments: &[u16; 75],
     count: u8,
@@ -267,10 +247,12 @@ fn draw_side(
     cells: &mut [u32],
 ) -> Drawn
     requires { ⌜ words ≤ 3000000000 ⌝ }
-    requires { ⌜ pen .column + total (settings .hidden) (segmentsOn (stretch .side) (settings .hidden) 0 (segmentsOf (settings .linear) count (now segments))) ≤ length (now cells) ⌝ }
-    ensures { λ r. ⌜ Reached (pen .column + total (settings .hidden) (segmentsOn (stretch .side) (settings .hidden) 0 (segmentsOf (settings .linear) count (now (segments .entry))))) (words + 512 * count) r ⌝ }
-    ensures { λ r. ⌜ drawn r (now (cells .exit)) ≡ runFrom words (now (mem .entry)) (each (segment settings fill (stretch .source)) (segmentsOn (stretch .side) (settings .hidden) 0 (segmentsOf (settings .linear) count (now (segments .entry)))) (soFar pen (now (cells .entry)))) ⌝ }
+    requires { ⌜ pen .column + total (stretch .settings .hidden) (segmentsOn (stretch .side) (stretch .settings .hidden) 0 (segmentsOf (stretch .settings .linear) count (now segments))) ≤ length (now cells) ⌝ }
+    ensures { λ r. ⌜ Reached (pen .column + total (stretch .settings .hidden) (segmentsOn (stretch .side) (stretch .settings .hidden) 0 (segmentsOf (stretch .settings .linear) count (now (segments .entry))))) (words + 512 * count) r ⌝ }
+    ensures { λ r. ⌜ drawn r (now (cells .exit)) ≡ runFrom words (now (mem .entry)) (each (segment (stretch .settings) (stretch .fill) (stretch .source)) (segmentsOn (stretch .side) (stretch .settings .hidden) 0 (segmentsOf (stretch .settings .linear) count (now (segments .entry)))) (soFar pen (now (cells .entry)))) ⌝ }
 {
+    let settings = stretch.settings;
+    let fill = stretch.fill;
     let source = stretch.source;
     let side = stretch.side;
     let n = count as usize;
