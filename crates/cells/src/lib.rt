@@ -121,7 +121,7 @@ fn walk_cells(
                 side: Side::Whole,
                 end: 132,
             };
-            draw_run(mem, stretch, back, count, pen, words, cells)
+            draw_run(mem, cells, stretch, back, count, pen, words)
         }
         OverlayHead::Over {
             first,
@@ -171,7 +171,7 @@ fn draw_around(
         side: Side::Before(first),
         end: first,
     };
-    match draw_run(mem, before_it, back, count, pen, words, cells) {
+    match draw_run(mem, cells, before_it, back, count, pen, words) {
         Drawn::Refused { number, address } => Drawn::Refused { number, address },
         Drawn::Accepted {
             pen: before,
@@ -185,7 +185,7 @@ fn draw_around(
                 end,
             };
             let begun = pens::with_list(memory::Pointer { address: 0 }, before);
-            match draw_run(mem, within, window, n, begun, read, cells) {
+            match draw_run(mem, cells, within, window, n, begun, read) {
                 Drawn::Refused { number, address } => Drawn::Refused { number, address },
                 Drawn::Accepted {
                     pen: after,
@@ -201,7 +201,7 @@ fn draw_around(
                         side,
                         end: 132,
                     };
-                    draw_run(mem, after_it, back, count, resumed, so_far, cells)
+                    draw_run(mem, cells, after_it, back, count, resumed, so_far)
                 }
             }
         }
@@ -211,12 +211,12 @@ fn draw_around(
 // The segments on a side, then the fill run up to the column `end`.
 fn draw_run(
     mem: &[u16],
+    cells: &mut [u32],
     stretch: Stretch,
     segments: &[u16; 75],
     count: u8,
     pen: Pen,
     words: u32,
-    cells: &mut [u32],
 ) -> Drawn
     requires { ⌜ (stretch .end ≤ length (now cells)) × (words ≤ 3000000000) ⌝ }
     requires { ⌜ pen .column + total (stretch .settings .hidden) (segmentsOn (stretch .side) (stretch .settings .hidden) 0 (segmentsOf (stretch .settings .linear) count (now segments))) ≤ stretch .end ⌝ }
@@ -229,7 +229,11 @@ fn draw_run(
             pen: after,
             words: read,
         } => {
-            let settings = stretch.settings;
+            let settings = CodeSettings {
+                linear: stretch.settings.linear,
+                hidden: stretch.settings.hidden,
+                flag: stretch.settings.flag,
+            };
             let fill = stretch.fill;
             fill::fill_to(mem, settings, fill, stretch.end, after, read, cells)
         }
@@ -251,7 +255,12 @@ fn draw_side(
     ensures { λ r. ⌜ Reached (pen .column + total (stretch .settings .hidden) (segmentsOn (stretch .side) (stretch .settings .hidden) 0 (segmentsOf (stretch .settings .linear) count (now (segments .entry))))) (words + 512 * count) r ⌝ }
     ensures { λ r. ⌜ drawn r (now (cells .exit)) ≡ runFrom words (now (mem .entry)) (each (segment (stretch .settings) (stretch .fill) (stretch .source)) (segmentsOn (stretch .side) (stretch .settings .hidden) 0 (segmentsOf (stretch .settings .linear) count (now (segments .entry)))) (soFar pen (now (cells .entry)))) ⌝ }
 {
-    let settings = stretch.settings;
+    // field by field: copied whole, the settings would stay in one register and be taken apart at each code
+    let settings = CodeSettings {
+        linear: stretch.settings.linear,
+        hidden: stretch.settings.hidden,
+        flag: stretch.settings.flag,
+    };
     let fill = stretch.fill;
     let source = stretch.source;
     let side = stretch.side;

@@ -26,7 +26,7 @@ draw-run-requires-2 c κs =
     let k = around (a .settings .hidden) (a .first) (a .end) (segmentsOf (a .settings .linear) (a .n) (a .window .now)) (segmentsOf (a .settings .linear) (a .count) (a .back .now)) (p .0) in
     let r = c .before .before .before .before .before .before .before .draw-run in
     let h = rw (c .before .before .before .before2 .given .1) at (r .ensures .0) in (
-      (omega (arith, k .after, p .1 .1, r .kept .1 .1 .1 .1 .1 .1 .0), omega (arith, h .1, p .1 .2)),
+      (omega (arith, k .after, p .1 .1, r .kept .1 .0), omega (arith, h .1, p .1 .2)),
       rw (c .before .with-list .ensures) (omega (arith, k .inside, h .0)),
     )
 
@@ -39,14 +39,14 @@ draw-run-requires-3 c κs =
     let s = c .before .before .before .before .before .before .before .before .draw-run2 in
     let h = rw (c .before .before .before .before .before .before .before .before .before .before .before .before .before2 .given .1) at (r .ensures .0) in
     let i = rw (c .before .before .before .before .after .given .1) at (s .ensures .0) in (
-      (omega (arith, p .1 .1, r .kept .1 .1 .1 .1 .1 .1 .0, s .kept .1 .1 .1 .1 .1 .1 .0), omega (arith, h .1, i .1, p .1 .2)),
+      (omega (arith, p .1 .1, r .kept .1 .0, s .kept .1 .0), omega (arith, h .1, i .1, p .1 .2)),
       rw (c .before .using-list .ensures) (omega (arith, k .after, i .0)),
     )
 
 same-length-3 : tie.Need-same-length-3
 same-length-3 c =
-    c .before .before .draw-run3 .kept .1 .1 .1 .1 .1 .1 .0 ∙ c .before .before .before .before .before .before .before .before .before .before .before .draw-run2 .kept .1 .1 .1 .1 .1 .1 .0
-    ∙ c .before .before .before .before .before .before .before .before .before .before .before .before .before .before .before .before .before .before .before .draw-run .kept .1 .1 .1 .1 .1 .1 .0
+    c .before .before .draw-run3 .kept .1 .0 ∙ c .before .before .before .before .before .before .before .before .before .before .before .draw-run2 .kept .1 .0
+    ∙ c .before .before .before .before .before .before .before .before .before .before .before .before .before .before .before .before .before .before .before .draw-run .kept .1 .0
 
 returns : tie.Need-returns
 unfolding rowCells

@@ -11,11 +11,11 @@ use Rattle.cells.proofs.draw_run.Tie as tie
 
 fill-to-requires : tie.Need-fill-to-requires
 fill-to-requires c κs =
-    let r = c .before .before .before .before .before .before .before .before .draw-side in
-    let h = rw (c .before .before .before .before .after .given .1) at (r .ensures .0) in (
-      omega (arith, c .before .before .before .before .before .before .before .before .before .before .before .before .pre .0 .0, r .kept .1 .1 .1 .1 .1 .1 .0),
-      omega (arith, c .before .before .before .before .before .before .before .before .before .before .before .before .pre .1, h .0),
-      omega (arith, c .before .before .before .before .before .before .before .before .before .before .before .before .pre .0 .1, h .1, c .before .before .before .before .before .before .before .before .before .before .before .before .fits .count),
+    let r = c .before .before .before .before .before .before .before .draw-side in
+    let h = rw (c .before .before .before .after .given .1) at (r .ensures .0) in (
+      omega (arith, c .before .before .before .before .before .before .before .before .before .before .before .pre .0 .0, r .kept .1 .1 .1 .1 .1 .1 .0),
+      omega (arith, c .before .before .before .before .before .before .before .before .before .before .before .pre .1, h .0),
+      omega (arith, c .before .before .before .before .before .before .before .before .before .before .before .pre .0 .1, h .1, c .before .before .before .before .before .before .before .before .before .before .before .fits .count),
     )
 
 returns : tie.Need-returns
@@ -30,12 +30,12 @@ returns c =
 returns-2 : tie.Need-returns-2
 unfolding segmentsTo
 returns-2 c =
-    let a = c .before .before .before .before .before .before .before .before .before .before .before .before .before .before .before .args in
-    let d = c .before .before .before .before .before .before .before .before .before .before .before .draw-side in
+    let a = c .before .before .before .before .before .before .before .before .before .before .before .before .before .before .args in
+    let d = c .before .before .before .before .before .before .before .before .before .before .draw-side in
     let r = c .before .before .fill-to in
-    let h = rw (c .before .before .before .before .before .before .before .after .given .1) at (d .ensures .0) in (
-      reached-more (a .stretch .end) (c .before .before .before .before .before .before .before .after .given .0 .1 .0 + 1) (a .words + 131000) (r .result) (r .ensures .0) (omega (arith, h .1, c .before .before .before .before .before .before .before .before .before .before .before .before .before .before .before .fits .count)),
-      r .ensures .1 ∙ sym (bind-given (a .words) (a .mem .now) _ _ (sym (rw (c .before .before .before .before .before .before .before .after .given .1) at (d .ensures .1)))),
+    let h = rw (c .before .before .before .before .before .before .after .given .1) at (d .ensures .0) in (
+      reached-more (a .stretch .end) (c .before .before .before .before .before .before .after .given .0 .1 .0 + 1) (a .words + 131000) (r .result) (r .ensures .0) (omega (arith, h .1, c .before .before .before .before .before .before .before .before .before .before .before .before .before .before .fits .count)),
+      r .ensures .1 ∙ sym (bind-given (a .words) (a .mem .now) _ _ (sym (rw (c .before .before .before .before .before .before .after .given .1) at (d .ensures .1)))),
     )
 
 pub draw-run-spec : {M : Type 1} → statement M
