@@ -33,7 +33,7 @@ finished (Cells.Refused x) cs = refused x
 -- drawing went up to a column, with no more words read than said
 abbrev pub Reached : ℕ → ℕ → Drawn → Type 0
 Reached end most (Accepted p n) = (p .column ≡ end) × (n ≤ most)
-Reached end most (Refused x) = (0 ≤ end) × (0 ≤ most)
+Reached end most (Refused n a) = (0 ≤ end) × (0 ≤ most)
 
 -- what a plan's checks 10, 11 and 12 give: the widths stay within the row and within the window, whose edges are boundaries
 abbrev pub Inside : Bool → Overlay → Type 0

@@ -6,7 +6,6 @@ use codes::Pen;
 use codes::Source;
 use codes::attribute;
 use codes::pens;
-use memory::Fault;
 use memory::Fetch;
 ghost use mathlib.Core.Path.{_≡_};
 ghost use mathlib.Core.List.{_++_};
@@ -69,13 +68,19 @@ fn fill_by_word(
                     words: words + 1,
                 }
             } else {
-                Drawn::Refused(Fault {
+                Drawn::Refused {
                     number: 13,
                     address: next.address,
-                })
+                }
             }
         }
-        Fetch::Absent => Drawn::Refused(memory::missing(next)),
+        Fetch::Absent => {
+            let fault = memory::missing(next);
+            Drawn::Refused {
+                number: fault.number,
+                address: fault.address,
+            }
+        }
     }
 }
 

@@ -35,6 +35,15 @@ pub enum CellsDrawn {
     Refused(Fault),
 }
 
+// A stretch of a row: what it is drawn by, the segments on a side, their source, and the column up to which the fill run after them goes.
+struct Stretch {
+    settings: CodeSettings,
+    fill: FillMode,
+    source: Source,
+    side: Side,
+    end: usize,
+}
+
 // The cells of a row from a latch, in order, as its plan says: the background's segments in `back`, a window's in `window`.
 pub fn draw_cells(
     mem: &[u16],
@@ -64,7 +73,7 @@ pub fn draw_cells(
         words,
         cells,
     ) {
-        Drawn::Refused(fault) => CellsDrawn::Refused(fault),
+        Drawn::Refused { number, address } => { CellsDrawn::Refused(Fault { number, address }) },
         Drawn::Accepted { pen, words: read } => CellsDrawn::Accepted {
             latch: pen.latch,
             latched: pen.latched,
@@ -104,19 +113,16 @@ fn walk_cells(
 {
     let pen = pens::blank(latch);
     match overlay {
-        OverlayHead::NoOverlay => draw_run(
-            mem,
-            settings,
-            fill,
-            Source::Background,
-            Side::Whole,
-            back,
-            count,
-            132,
-            pen,
-            words,
-            cells,
-        ),
+        OverlayHead::NoOverlay => {
+            let stretch = Stretch {
+                settings,
+                fill,
+                source: Source::Background,
+                side: Side::Whole,
+                end: 132,
+            };
+            draw_run(mem, cells, stretch, back, count, pen, words)
+        }
         OverlayHead::Over {
             first,
             end,
@@ -158,41 +164,29 @@ fn draw_around(
     ensures { λ r. ⌜ Reached 132 (words + 400000) r ⌝ }
     ensures { λ r. ⌜ drawn r (now (cells .exit)) ≡ runFrom words (now (mem .entry)) (rowCells settings fill (over first end (segmentsOf (settings .linear) n (now (window .entry)))) (segmentsOf (settings .linear) count (now (back .entry))) (soFar pen (now (cells .entry)))) ⌝ }
 {
-    let source = Source::Background;
-    let side = Side::Before(first);
-    match draw_run(
-        mem,
+    let before_it = Stretch {
         settings,
         fill,
-        source,
-        side,
-        back,
-        count,
-        first,
-        pen,
-        words,
-        cells,
-    ) {
-        Drawn::Refused(fault) => Drawn::Refused(fault),
+        source: Source::Background,
+        side: Side::Before(first),
+        end: first,
+    };
+    match draw_run(mem, cells, before_it, back, count, pen, words) {
+        Drawn::Refused { number, address } => Drawn::Refused { number, address },
         Drawn::Accepted {
             pen: before,
             words: read,
         } => {
-            let begun = pens::with_list(memory::Pointer { address: 0 }, before);
-            match draw_run(
-                mem,
+            let within = Stretch {
                 settings,
                 fill,
-                Source::Window,
-                Side::Whole,
-                window,
-                n,
+                source: Source::Window,
+                side: Side::Whole,
                 end,
-                begun,
-                read,
-                cells,
-            ) {
-                Drawn::Refused(fault) => Drawn::Refused(fault),
+            };
+            let begun = pens::with_list(memory::Pointer { address: 0 }, before);
+            match draw_run(mem, cells, within, window, n, begun, read) {
+                Drawn::Refused { number, address } => Drawn::Refused { number, address },
                 Drawn::Accepted {
                     pen: after,
                     words: so_far,
@@ -200,19 +194,14 @@ fn draw_around(
                     let list = before.list;
                     let resumed = pens::using_list(list, after);
                     let side = Side::After(first, end);
-                    draw_run(
-                        mem,
+                    let after_it = Stretch {
                         settings,
                         fill,
-                        source,
+                        source: Source::Background,
                         side,
-                        back,
-                        count,
-                        132,
-                        resumed,
-                        so_far,
-                        cells,
-                    )
+                        end: 132,
+                    };
+                    draw_run(mem, cells, after_it, back, count, resumed, so_far)
                 }
             }
         }
@@ -222,49 +211,39 @@ fn draw_around(
 // The segments on a side, then the fill run up to the column `end`.
 fn draw_run(
     mem: &[u16],
-    settings: CodeSettings,
-    fill: FillMode,
-    source: Source,
-    side: Side,
+    cells: &mut [u32],
+    stretch: Stretch,
     segments: &[u16; 75],
     count: u8,
-    end: usize,
     pen: Pen,
     words: u32,
-    cells: &mut [u32],
 ) -> Drawn
-    requires { ⌜ (end ≤ length (now cells)) × (words ≤ 3000000000) ⌝ }
-    requires { ⌜ pen .column + total (settings .hidden) (segmentsOn side (settings .hidden) 0 (segmentsOf (settings .linear) count (now segments))) ≤ end ⌝ }
-    ensures { λ r. ⌜ Reached end (words + 131000) r ⌝ }
-    ensures { λ r. ⌜ drawn r (now (cells .exit)) ≡ runFrom words (now (mem .entry)) (segmentsTo settings fill source (segmentsOn side (settings .hidden) 0 (segmentsOf (settings .linear) count (now (segments .entry)))) end (soFar pen (now (cells .entry)))) ⌝ }
+    requires { ⌜ (stretch .end ≤ length (now cells)) × (words ≤ 3000000000) ⌝ }
+    requires { ⌜ pen .column + total (stretch .settings .hidden) (segmentsOn (stretch .side) (stretch .settings .hidden) 0 (segmentsOf (stretch .settings .linear) count (now segments))) ≤ stretch .end ⌝ }
+    ensures { λ r. ⌜ Reached (stretch .end) (words + 131000) r ⌝ }
+    ensures { λ r. ⌜ drawn r (now (cells .exit)) ≡ runFrom words (now (mem .entry)) (segmentsTo (stretch .settings) (stretch .fill) (stretch .source) (segmentsOn (stretch .side) (stretch .settings .hidden) 0 (segmentsOf (stretch .settings .linear) count (now (segments .entry)))) (stretch .end) (soFar pen (now (cells .entry)))) ⌝ }
 {
-    match draw_side(
-        mem,
-        settings,
-        fill,
-        source,
-        side,
-        segments,
-        count,
-        pen,
-        words,
-        cells,
-    ) {
-        Drawn::Refused(fault) => Drawn::Refused(fault),
+    match draw_side(mem, stretch, segments, count, pen, words, cells) {
+        Drawn::Refused { number, address } => Drawn::Refused { number, address },
         Drawn::Accepted {
             pen: after,
             words: read,
-        } => fill::fill_to(mem, settings, fill, end, after, read, cells),
+        } => {
+            let settings = CodeSettings {
+                linear: stretch.settings.linear,
+                hidden: stretch.settings.hidden,
+                flag: stretch.settings.flag,
+            };
+            let fill = stretch.fill;
+            fill::fill_to(mem, settings, fill, stretch.end, after, read, cells)
+        }
     }
 }
 
 // The segments on a side, one after the other.
 fn draw_side(
     mem: &[u16],
-    settings: CodeSettings,
-    fill: FillMode,
-    source: Source,
-    side: Side,
+    stretch: Stretch,
     segments: &[u16; 75],
     count: u8,
     pen: Pen,
@@ -272,10 +251,19 @@ fn draw_side(
     cells: &mut [u32],
 ) -> Drawn
     requires { ⌜ words ≤ 3000000000 ⌝ }
-    requires { ⌜ pen .column + total (settings .hidden) (segmentsOn side (settings .hidden) 0 (segmentsOf (settings .linear) count (now segments))) ≤ length (now cells) ⌝ }
-    ensures { λ r. ⌜ Reached (pen .column + total (settings .hidden) (segmentsOn side (settings .hidden) 0 (segmentsOf (settings .linear) count (now (segments .entry))))) (words + 512 * count) r ⌝ }
-    ensures { λ r. ⌜ drawn r (now (cells .exit)) ≡ runFrom words (now (mem .entry)) (each (segment settings fill source) (segmentsOn side (settings .hidden) 0 (segmentsOf (settings .linear) count (now (segments .entry)))) (soFar pen (now (cells .entry)))) ⌝ }
+    requires { ⌜ pen .column + total (stretch .settings .hidden) (segmentsOn (stretch .side) (stretch .settings .hidden) 0 (segmentsOf (stretch .settings .linear) count (now segments))) ≤ length (now cells) ⌝ }
+    ensures { λ r. ⌜ Reached (pen .column + total (stretch .settings .hidden) (segmentsOn (stretch .side) (stretch .settings .hidden) 0 (segmentsOf (stretch .settings .linear) count (now (segments .entry))))) (words + 512 * count) r ⌝ }
+    ensures { λ r. ⌜ drawn r (now (cells .exit)) ≡ runFrom words (now (mem .entry)) (each (segment (stretch .settings) (stretch .fill) (stretch .source)) (segmentsOn (stretch .side) (stretch .settings .hidden) 0 (segmentsOf (stretch .settings .linear) count (now (segments .entry)))) (soFar pen (now (cells .entry)))) ⌝ }
 {
+    // field by field: copied whole, the settings would stay in one register and be taken apart at each code
+    let settings = CodeSettings {
+        linear: stretch.settings.linear,
+        hidden: stretch.settings.hidden,
+        flag: stretch.settings.flag,
+    };
+    let fill = stretch.fill;
+    let source = stretch.source;
+    let side = stretch.side;
     let n = count as usize;
     let mut current = pen;
     let mut read = words;
@@ -286,7 +274,7 @@ fn draw_side(
         let w = layout::width(settings.hidden, g);
         let chosen = layout::on_side(side, at, w);
         match draw_chosen(mem, settings, fill, source, chosen, g, current, read, cells) {
-            Drawn::Refused(fault) => return Drawn::Refused(fault),
+            Drawn::Refused { number, address } => return Drawn::Refused { number, address },
             Drawn::Accepted {
                 pen: after,
                 words: so_far,
@@ -357,7 +345,7 @@ fn draw_segment(
         words,
         cells,
     ) {
-        Drawn::Refused(fault) => Drawn::Refused(fault),
+        Drawn::Refused { number, address } => Drawn::Refused { number, address },
         Drawn::Accepted {
             pen: after,
             words: read,

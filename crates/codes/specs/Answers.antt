@@ -14,9 +14,9 @@ soFar p cs = drawing p (take (p .column) cs)
 
 abbrev pub drawn : Drawn → List ℕ → Outcome Drawing
 drawn (Accepted p n) cs = given n (soFar p cs)
-drawn (Refused x) cs = refused x
+drawn (Refused n a) cs = refused (record { number = n; address = a })
 
 -- drawing went up to a column at most, with no more words read than said
 abbrev pub Within : ℕ → ℕ → Drawn → Type 0
 Within end most (Accepted p n) = (p .column ≤ end) × (n ≤ most)
-Within end most (Refused x) = (0 ≤ end) × (0 ≤ most)
+Within end most (Refused n a) = (0 ≤ end) × (0 ≤ most)

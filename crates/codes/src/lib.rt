@@ -1,5 +1,4 @@
 // The codes of a segment: each takes its attribute and becomes a character of the row, unless it is ignored or dropped.
-use memory::Fault;
 use memory::Pointer;
 
 pub mod attribute; // attribute words, and the bits of a cell
@@ -40,8 +39,9 @@ pub struct Pen {
     pub list: AttributeList,
 }
 
-// Where drawing went, with the words read so far; or the refusal that it met.
+// Where drawing went, with the words read so far; or the fault that it met, in two fields: a struct would lie across the pen's column,
+// and the compiler would then keep both in memory.
 pub enum Drawn {
     Accepted { pen: Pen, words: u32 },
-    Refused(Fault),
+    Refused { number: u8, address: u32 },
 }

@@ -37,11 +37,15 @@ pub fn draw_word_by_word(
     let mut read = words;
     while 0 < left {
         let Fetch::Word(w) = memory::word_at(mem, at.address) else {
-            return Drawn::Refused(memory::missing(at));
+            let fault = memory::missing(at);
+            return Drawn::Refused {
+                number: fault.number,
+                address: fault.address,
+            };
         };
         let n = codes_in_word(left);
         match draw_word(mem, settings, room, w, n, current, read + 1, cells) {
-            Drawn::Refused(fault) => return Drawn::Refused(fault),
+            Drawn::Refused { number, address } => return Drawn::Refused { number, address },
             Drawn::Accepted {
                 pen: after,
                 words: so_far,
@@ -80,7 +84,7 @@ fn draw_word(
     while i < n {
         let code = code_at(w, i);
         match examine_code(mem, settings, room, code, current, read, cells) {
-            Drawn::Refused(fault) => return Drawn::Refused(fault),
+            Drawn::Refused { number, address } => return Drawn::Refused { number, address },
             Drawn::Accepted {
                 pen: after,
                 words: so_far,
@@ -121,7 +125,13 @@ fn examine_code(
                     words: words + 1,
                 }
             }
-            Fetch::Absent => Drawn::Refused(memory::missing(next)),
+            Fetch::Absent => {
+                let fault = memory::missing(next);
+                Drawn::Refused {
+                    number: fault.number,
+                    address: fault.address,
+                }
+            }
         }
     } else {
         Drawn::Accepted {

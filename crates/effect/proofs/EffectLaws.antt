@@ -1,4 +1,4 @@
--- A row's outcomes from its plan: refused as the plan is, or gone on from it; and its effect, where its latch was followed.
+-- A row's outcomes from its plan: refused as the plan is, or gone on from it; and its effect, where its latch was told.
 use mathlib.Core.Path.{_≡_, refl, ap, ap₂, sym, _∙_}
 use mathlib.Core.Bool.{Bool, true, false}
 use mathlib.Core.List.{List}
@@ -20,9 +20,9 @@ use Rattle.cells.specs.Answers.{Finished, finish, finished}
 use Rattle.cells.proofs.FinishLaws.{finish-refused, finish-given}
 use Rattle.row.specs.Row.{codeSettings, Row, drawnBy, fromPlan, row}
 use Rattle.row.proofs.RowLaws.{planned-refused, planned-drawn}
-use Rattle.follow.specs.declared.Followed.{Followed}
-use Rattle.follow.specs.declared.Followed.the-variants.{Kept, Latched, Unclear}
-use Rattle.follow.specs.Follow.{ending, AsDrawn}
+use Rattle.latch.specs.declared.LatchEffect.{LatchEffect}
+use Rattle.latch.specs.declared.LatchEffect.the-variants.{Kept, Latched, Unclear}
+use Rattle.latch.specs.Latch.{ending, AsDrawn}
 use Rattle.effect.specs.declared.Part.{Part}
 use Rattle.effect.specs.declared.Part.the-variants.{Keep, Set}
 use Rattle.effect.specs.declared.NextFields.{NextFields}
@@ -41,16 +41,16 @@ module _ (σ : Settings) (m : List ℕ) (f : Fields) where
   plan-given e ignore = sym (bind-given 0 m (plan σ f) _ (sym e))
 
   module _ {n : ℕ} {p : Plan} (e : given n p ≡ run m (plan σ f)) where
-    -- an accepted row that has a part and the plan's next fields; the part as followed
+    -- an accepted row that has a part and the plan's next fields; the part as told
     abbrev Accepts : Part → Outcome Row → Type 0
     Accepts part o = (partOf f o ≡ part) × ((x : NextFields) → nextOf o x ≡ Reached (p .next))
 
-    abbrev Ends : Followed → Outcome Row → Type 0
+    abbrev Ends : LatchEffect → Outcome Row → Type 0
     Ends Kept o = Accepts Keep o
     Ends (Latched w) o = Accepts (Set w) o
     Ends Unclear o = Unit {0}
 
-    row-ends : (r : Followed) (ignore : Bool) → r ≡ ending (runFrom n m (rowCells (codeSettings σ) (f .fill) (p .overlay) (p .segments) (blank (latchWith ignore))))
+    row-ends : (r : LatchEffect) (ignore : Bool) → r ≡ ending (runFrom n m (rowCells (codeSettings σ) (f .fill) (p .overlay) (p .segments) (blank (latchWith ignore))))
         → Ends r (outcomeFor σ m f ignore)
     row-ends r ignore h = rw (← plan-given e ignore, h) (out (runFrom n m drawn) refl)
       where
@@ -60,10 +60,10 @@ module _ (σ : Settings) (m : List ℕ) (f : Fields) where
         out : (o : Outcome Drawing) → runFrom n m drawn ≡ o → Ends (ending o) (runFrom n m (drawn >>= λ d. done (drawnBy p d)))
         out (given i d) e =
             rw (bind-given n m drawn (λ d. done (drawnBy p d)) e ∙ run-done i m (drawnBy p d))
-            (if-cases (λ (r : Followed). Ends r (given i (drawnBy p d))) (d .pen .latched) (λ t. (rw t, λ x. refl)) (λ t. (rw t, λ x. refl)))
+            (if-cases (λ (r : LatchEffect). Ends r (given i (drawnBy p d))) (d .pen .latched) (λ t. (rw t, λ x. refl)) (λ t. (rw t, λ x. refl)))
         out (refused x) e = tt
 
-    -- the effect of a row whose latch was followed
+    -- the effect of a row whose latch was told
     same : (part : Part) → ((ignore : Bool) → Accepts part (outcomeFor σ m f ignore)) → sameParts part (p .next) ≡ effectCall σ m f
     unfolding effectCall
     same part h = rw (h false .0, h true .0, h false .1)

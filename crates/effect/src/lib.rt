@@ -1,6 +1,6 @@
 // Effects of rows on the latch.
 use cells::CellsDrawn;
-use follow::Followed;
+use latch::LatchEffect;
 use memory::Refusal;
 use plan::PlanAnswer;
 use plan::PlanHead;
@@ -78,7 +78,7 @@ impl Effect {
     }
 }
 
-// The effect of a row, with the next state's fields: its plan once, and then what becomes of the latch, followed without cells.
+// The effect of a row, with the next state's fields: its plan once, and then what becomes of the latch, told without its cells.
 // Where that is unclear, the row is drawn.
 pub fn row_effect(settings: Settings, mem: &[u16], fields: Fields) -> EffectAnswer
     ensures { λ r. ⌜ r ≡ effectCall settings (now (mem .entry)) fields ⌝ }
@@ -94,10 +94,10 @@ pub fn row_effect(settings: Settings, mem: &[u16], fields: Fields) -> EffectAnsw
             let fill = fields.fill;
             let overlay = p.overlay;
             let code = row::code_settings(settings);
-            match follow::follow_row(mem, code, fill, overlay, &back, p.count, &window) {
-                Followed::Kept => same_parts(Part::Keep, p),
-                Followed::Latched(w) => same_parts(Part::Set(w), p),
-                Followed::Unclear => drawn_effect(settings, mem, fields, p, &back, &window),
+            match latch::row_latch(mem, code, fill, overlay, &back, p.count, &window) {
+                LatchEffect::Kept => same_parts(Part::Keep, p),
+                LatchEffect::Latched(w) => same_parts(Part::Set(w), p),
+                LatchEffect::Unclear => drawn_effect(settings, mem, fields, p, &back, &window),
             }
         }
     }

@@ -1,3 +1,4 @@
+-- A null code pointer has no codes; a length is a byte.
 use native.Mathlib.Omega.{arith}
 use lib.Dec.{lit≤}
 use mathlib.Core.Path.{refl}

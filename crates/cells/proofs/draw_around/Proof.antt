@@ -1,3 +1,4 @@
+-- The three stretches follow one another as in the definition; what a plan has checked gives the room of each.
 use mathlib.Core.Path.{sym, _∙_}
 use Prim.Native.Nat.{_+_}
 use native.Mathlib.Omega.{arith}
@@ -25,7 +26,7 @@ draw-run-requires-2 c κs =
     let k = around (a .settings .hidden) (a .first) (a .end) (segmentsOf (a .settings .linear) (a .n) (a .window .now)) (segmentsOf (a .settings .linear) (a .count) (a .back .now)) (p .0) in
     let r = c .before .before .before .before .before .before .before .draw-run in
     let h = rw (c .before .before .before .before2 .given .1) at (r .ensures .0) in (
-      (omega (arith, k .after, p .1 .1, r .kept .1 .1 .1 .1 .1 .1 .1 .1 .1 .1 .0), omega (arith, h .1, p .1 .2)),
+      (omega (arith, k .after, p .1 .1, r .kept .1 .0), omega (arith, h .1, p .1 .2)),
       rw (c .before .with-list .ensures) (omega (arith, k .inside, h .0)),
     )
 
@@ -38,14 +39,14 @@ draw-run-requires-3 c κs =
     let s = c .before .before .before .before .before .before .before .before .draw-run2 in
     let h = rw (c .before .before .before .before .before .before .before .before .before .before .before .before .before2 .given .1) at (r .ensures .0) in
     let i = rw (c .before .before .before .before .after .given .1) at (s .ensures .0) in (
-      (omega (arith, p .1 .1, r .kept .1 .1 .1 .1 .1 .1 .1 .1 .1 .1 .0, s .kept .1 .1 .1 .1 .1 .1 .1 .1 .1 .1 .0), omega (arith, h .1, i .1, p .1 .2)),
+      (omega (arith, p .1 .1, r .kept .1 .0, s .kept .1 .0), omega (arith, h .1, i .1, p .1 .2)),
       rw (c .before .using-list .ensures) (omega (arith, k .after, i .0)),
     )
 
 same-length-3 : tie.Need-same-length-3
 same-length-3 c =
-    c .before .before .draw-run3 .kept .1 .1 .1 .1 .1 .1 .1 .1 .1 .1 .0 ∙ c .before .before .before .before .before .before .before .before .before .before .before .draw-run2 .kept .1 .1 .1 .1 .1 .1 .1 .1 .1 .1 .0
-    ∙ c .before .before .before .before .before .before .before .before .before .before .before .before .before .before .before .before .before .before .before .draw-run .kept .1 .1 .1 .1 .1 .1 .1 .1 .1 .1 .0
+    c .before .before .draw-run3 .kept .1 .0 ∙ c .before .before .before .before .before .before .before .before .before .before .before .draw-run2 .kept .1 .0
+    ∙ c .before .before .before .before .before .before .before .before .before .before .before .before .before .before .before .before .before .before .before .draw-run .kept .1 .0
 
 returns : tie.Need-returns
 unfolding rowCells
@@ -53,7 +54,7 @@ returns c =
     let a = c .before .before .before .before .before .before .before .before .before .args in
     let r = c .before .before .before .before .before .draw-run in (
       (omega arith, omega arith),
-      sym (bind-refused (a .words) (a .mem .now) _ _ (sym (rw (c .before .fault .given .1) at (r .ensures .1)))),
+      sym (bind-refused (a .words) (a .mem .now) _ _ (sym (rw (c .before .number .given .1) at (r .ensures .1)))),
     )
 
 returns-2 : tie.Need-returns-2
@@ -65,7 +66,7 @@ returns-2 c =
       (omega arith, omega arith),
       sym (bind-given (a .words) (a .mem .now) _ _ (sym (rw (c .before .before .before .before .before .before .before .before .before .before2 .given .1) at (r .ensures .1)))
           ∙ bind-refused _ (a .mem .now) _ _
-          (sym (rw (c .before .fault2 .given .1, c .before .before .before .before .before .before .before .with-list .ensures, whole-all (a .settings .hidden) 0 (segmentsOf (a .settings .linear) (a .n) (a .window .now))) at (s .ensures .1)))),
+          (sym (rw (c .before .number2 .given .1, c .before .before .before .before .before .before .before .with-list .ensures, whole-all (a .settings .hidden) 0 (segmentsOf (a .settings .linear) (a .n) (a .window .now))) at (s .ensures .1)))),
     )
 
 returns-3 : tie.Need-returns-3

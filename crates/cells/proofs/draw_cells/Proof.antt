@@ -1,3 +1,4 @@
+-- The walk ends at column 132, so the whole array is the cells of the row.
 use mathlib.Core.Path.{_≡_, ap, sym, _∙_}
 use mathlib.Core.List.{List}
 use Prim.Native.Nat.{ℕ}
@@ -11,7 +12,7 @@ use Rattle.cells.proofs.draw_cells.Statement.{statement}
 use Rattle.cells.proofs.draw_cells.Tie as tie
 
 returns : tie.Need-returns
-returns c = ap finish (rw (c .before .fault .given .1) at (c .before .before .before .before .before .walk-cells .ensures .1))
+returns c = ap finish (rw (c .before .number .given .1) at (c .before .before .before .before .before .walk-cells .ensures .1))
 
 returns-2 : tie.Need-returns-2
 returns-2 c =

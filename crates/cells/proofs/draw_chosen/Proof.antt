@@ -1,3 +1,4 @@
+-- A segment that is not chosen leaves the drawing as it is.
 use mathlib.Core.Path.{sym}
 use native.Mathlib.Omega.{arith}
 use Rattle.memory.proofs.Laws.{run-done}

@@ -1,3 +1,4 @@
+-- The segments of the side, then the fill run, as the definition has them.
 use mathlib.Core.Path.{sym, _∙_}
 use Prim.Native.Nat.{_+_}
 use native.Mathlib.Omega.{arith}
@@ -10,11 +11,11 @@ use Rattle.cells.proofs.draw_run.Tie as tie
 
 fill-to-requires : tie.Need-fill-to-requires
 fill-to-requires c κs =
-    let r = c .before .before .before .before .before .before .draw-side in
-    let h = rw (c .before .before .after .given .1) at (r .ensures .0) in (
-      omega (arith, c .before .before .before .before .before .before .before .before .before .before .pre .0 .0, r .kept .1 .1 .1 .1 .1 .1 .1 .1 .1 .0),
-      omega (arith, c .before .before .before .before .before .before .before .before .before .before .pre .1, h .0),
-      omega (arith, c .before .before .before .before .before .before .before .before .before .before .pre .0 .1, h .1, c .before .before .before .before .before .before .before .before .before .before .fits .count),
+    let r = c .before .before .before .before .before .before .before .draw-side in
+    let h = rw (c .before .before .before .after .given .1) at (r .ensures .0) in (
+      omega (arith, c .before .before .before .before .before .before .before .before .before .before .before .pre .0 .0, r .kept .1 .1 .1 .1 .1 .1 .0),
+      omega (arith, c .before .before .before .before .before .before .before .before .before .before .before .pre .1, h .0),
+      omega (arith, c .before .before .before .before .before .before .before .before .before .before .before .pre .0 .1, h .1, c .before .before .before .before .before .before .before .before .before .before .before .fits .count),
     )
 
 returns : tie.Need-returns
@@ -23,18 +24,18 @@ returns c =
     let a = c .before .before .before .before .before .before .before .before .before .args in
     let r = c .before .before .before .before .before .draw-side in (
       (omega arith, omega arith),
-      sym (bind-refused (a .words) (a .mem .now) _ _ (sym (rw (c .before .fault .given .1) at (r .ensures .1)))),
+      sym (bind-refused (a .words) (a .mem .now) _ _ (sym (rw (c .before .number .given .1) at (r .ensures .1)))),
     )
 
 returns-2 : tie.Need-returns-2
 unfolding segmentsTo
 returns-2 c =
-    let a = c .before .before .before .before .before .before .before .before .before .before .before .before .before .args in
-    let d = c .before .before .before .before .before .before .before .before .before .draw-side in
+    let a = c .before .before .before .before .before .before .before .before .before .before .before .before .before .before .args in
+    let d = c .before .before .before .before .before .before .before .before .before .before .draw-side in
     let r = c .before .before .fill-to in
-    let h = rw (c .before .before .before .before .before .after .given .1) at (d .ensures .0) in (
-      reached-more (a .end) (c .before .before .before .before .before .after .given .0 .1 .0 + 1) (a .words + 131000) (r .result) (r .ensures .0) (omega (arith, h .1, c .before .before .before .before .before .before .before .before .before .before .before .before .before .fits .count)),
-      r .ensures .1 ∙ sym (bind-given (a .words) (a .mem .now) _ _ (sym (rw (c .before .before .before .before .before .after .given .1) at (d .ensures .1)))),
+    let h = rw (c .before .before .before .before .before .before .after .given .1) at (d .ensures .0) in (
+      reached-more (a .stretch .end) (c .before .before .before .before .before .before .after .given .0 .1 .0 + 1) (a .words + 131000) (r .result) (r .ensures .0) (omega (arith, h .1, c .before .before .before .before .before .before .before .before .before .before .before .before .before .before .fits .count)),
+      r .ensures .1 ∙ sym (bind-given (a .words) (a .mem .now) _ _ (sym (rw (c .before .before .before .before .before .before .after .given .1) at (d .ensures .1)))),
     )
 
 pub draw-run-spec : {M : Type 1} → statement M

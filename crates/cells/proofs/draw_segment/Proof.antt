@@ -1,3 +1,4 @@
+-- The codes, up to the segment's width, then its fill run.
 use mathlib.Core.Path.{sym, _∙_}
 use Prim.Native.Nat.{_+_}
 use native.Mathlib.Omega.{arith}
@@ -29,7 +30,7 @@ returns c =
     let r = c .before .before .before .before .before .draw-codes in (
       (omega arith, omega arith),
       sym (bind-refused (a .words) (a .mem .now) _ _
-          (sym (rw (c .before .fault .given .1, c .before .before .before .before .before .before .before .before .before .with-list .ensures, c .before .before .before .before .before .before .before .code-count .ensures .0, c .before .before .before .before .before .before .before .before .before .before .before .before .width .ensures) at (r .ensures .1)))),
+          (sym (rw (c .before .number .given .1, c .before .before .before .before .before .before .before .before .before .with-list .ensures, c .before .before .before .before .before .before .before .code-count .ensures .0, c .before .before .before .before .before .before .before .before .before .before .before .before .width .ensures) at (r .ensures .1)))),
     )
 
 returns-2 : tie.Need-returns-2

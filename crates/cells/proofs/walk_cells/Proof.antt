@@ -1,3 +1,4 @@
+-- Without a window the background is drawn whole, else around the window.
 use mathlib.Core.Path.{refl, _∙_}
 use Prim.Native.Nat.{_+_}
 use native.Mathlib.Omega.{arith}

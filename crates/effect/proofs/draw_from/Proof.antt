@@ -1,3 +1,4 @@
+-- The cells of a planned row tell what the whole row comes to.
 use Rattle.state.specs.State.{stateOf}
 use Rattle.row.proofs.RowLaws.{plan-drawable}
 use Rattle.effect.proofs.EffectLaws.{cells-row}

@@ -1,3 +1,4 @@
+-- A refusal is the part; else the word that became the latch, or keep.
 use borrow.Author.Needs.{needs}
 use Rattle.effect.proofs.part_of.Statement.{statement}
 use Rattle.effect.proofs.part_of.Tie as tie

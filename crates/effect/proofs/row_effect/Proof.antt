@@ -1,3 +1,4 @@
+-- A row has its plan's refusal for either latch; else what is told, or what its cells tell where that is unclear.
 use mathlib.Core.Path.{ap₂, _∙_}
 use mathlib.Core.Bool.{true, false}
 use Rattle.effect.specs.Effect.{effectOf, effectCall}
@@ -24,7 +25,7 @@ returns-2 c =
     let a = y .before .before .before .before .before .before .args in
     c .same-parts .ensures
     ∙ kept-effect (a .settings) (a .mem .now) (a .fields) (rw (y .p .given .1) at (y .before .before .plan-row .ensures))
-    (rw (c .before .enum-told .given .1, c .before .before .before .before .before .before .code-settings .ensures) at (c .before .before .before .follow-row .ensures .1))
+    (rw (c .before .enum-told .given .1, c .before .before .before .before .before .before .code-settings .ensures) at (c .before .before .before .row-latch .ensures .1))
 
 returns-3 : tie.Need-returns-3
 returns-3 c =
@@ -32,7 +33,7 @@ returns-3 c =
     let a = y .before .before .before .before .before .before .args in
     c .same-parts2 .ensures
     ∙ latched-effect (a .settings) (a .mem .now) (a .fields) (rw (y .p .given .1) at (y .before .before .plan-row .ensures)) _
-    (rw (c .before .before .w .given .1, c .before .before .before .before .before .before .before .code-settings .ensures) at (c .before .before .before .before .follow-row .ensures .1))
+    (rw (c .before .before .w .given .1, c .before .before .before .before .before .before .before .code-settings .ensures) at (c .before .before .before .before .row-latch .ensures .1))
 
 pub row-effect-spec : {M : Type 1} → statement M
 row-effect-spec =

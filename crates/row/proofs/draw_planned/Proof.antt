@@ -1,3 +1,4 @@
+-- What the plan has checked lets the cells be drawn; the answer and the buffer are then those of the whole row.
 use mathlib.Core.Path.{sym, ap, ap₂, _∙_}
 use mathlib.Core.List.{List}
 use Prim.Native.Nat.{ℕ}

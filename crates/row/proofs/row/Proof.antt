@@ -1,3 +1,4 @@
+-- The buffer's size is check 1; a row is refused as its plan is, or drawn from it.
 use mathlib.Core.Path.{refl, ap}
 use lib.ListN.{length}
 use lib.Dec.{lit<}

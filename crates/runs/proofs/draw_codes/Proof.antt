@@ -1,3 +1,4 @@
+-- Each way draws the same codes; the tests give what each of the two fast ones asks.
 use mathlib.Core.Path.{sym, _∙_}
 use borrow.Author.Tests.{not-true, not-false}
 use borrow.Author.Needs.{needs}

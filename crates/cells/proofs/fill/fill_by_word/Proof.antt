@@ -1,3 +1,4 @@
+-- The word of the list is taken where it has bit 15, refused where it has not or is missing.
 use mathlib.Core.Path.{ap, sym, _∙_}
 use Prim.Native.Nat.{_+_}
 use native.Mathlib.Omega.{arith}

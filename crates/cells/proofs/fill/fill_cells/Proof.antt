@@ -1,3 +1,4 @@
+-- Each turn sets one cell more.
 use mathlib.Core.Path.{_≡_, refl}
 use mathlib.Core.List.{_++_}
 use Prim.Native.Nat.{_≤_, _-_}

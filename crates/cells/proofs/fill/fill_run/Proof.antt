@@ -1,3 +1,4 @@
+-- The cells up to the column have the value that the definition gives them.
 use mathlib.Core.Path.{refl}
 use native.Mathlib.Omega.{arith}
 use Rattle.cells.proofs.FillLaws.{filled-run}

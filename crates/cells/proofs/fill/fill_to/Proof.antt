@@ -1,3 +1,4 @@
+-- The three cases are the definition's: no cell, a word first, or the latch.
 use mathlib.Core.Path.{ap, sym, _∙_}
 use native.Mathlib.Omega.{arith}
 use Rattle.memory.specs.Reading.{given}

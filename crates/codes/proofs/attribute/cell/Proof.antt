@@ -1,3 +1,4 @@
+-- The sum is the definition's, once the source has its number; each part stays below its bits, so nothing wraps.
 use Rattle.codes.specs.Attribute.{cell}
 use borrow.Author.Needs.{needs}
 use Rattle.codes.proofs.attribute.cell.Statement.{statement}

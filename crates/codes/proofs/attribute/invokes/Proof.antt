@@ -1,3 +1,4 @@
+-- Mask and value are the flag's bytes, as the definition has them.
 use Rattle.codes.specs.Attribute.{invokes}
 use borrow.Author.Needs.{needs}
 use Rattle.codes.proofs.attribute.invokes.Statement.{statement}

@@ -1,3 +1,4 @@
+-- Bit 13 is the definition's ignore.
 use borrow.Author.Needs.{needs}
 use Rattle.codes.proofs.attribute.is_shown.Statement.{statement}
 use Rattle.codes.proofs.attribute.is_shown.Tie as tie

@@ -1,3 +1,4 @@
+-- One number for each source, as the definition lists them.
 use mathlib.Core.Path.{refl}
 use lib.Dec.{lit≤}
 use Rattle.codes.specs.Attribute.{sourceNumber}

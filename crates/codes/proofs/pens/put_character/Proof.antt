@@ -1,3 +1,4 @@
+-- One cell more at the pen's column where the test of the definition holds, and the same drawing where it does not.
 use native.Mathlib.Omega.{arith}
 use lib.Dec.{ltb}
 use borrow.Author.Tests.{ltb-true}

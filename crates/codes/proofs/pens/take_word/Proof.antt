@@ -1,3 +1,4 @@
+-- Either side of bit 15 is the definition's, and the list moves one word on.
 use mathlib.Core.Path.{sym, _∙_}
 use Rattle.codes.specs.Codes.{taking}
 use borrow.Author.Needs.{needs}

@@ -1,3 +1,4 @@
+-- Code 0 is the high byte and code 1 the low one.
 use mathlib.Core.Path.{_≡_}
 use native.Mathlib.Omega.{arith}
 use borrow.Author.Needs.{needs}

@@ -1,3 +1,4 @@
+-- Each turn examines one code: what is left to examine from here is the whole word's.
 use mathlib.Core.Path.{_≡_, refl, sym, _∙_}
 use mathlib.Core.List.{List, [], _∷_}
 use Prim.Native.Nat.{ℕ, _+_, _-_, _≤_}
@@ -36,7 +37,7 @@ returns c =
       (omega arith, omega arith),
       sym (l .inv .4
           ∙ bytes-refused (l .read) (a .mem .now) (a .settings) (a .room .source) (a .room .end) (bytes (a .w)) (a .n) (l .i) (soFar (l .current) (l .cells))
-          (c .before .before .before .before .before .before .before .before .loop-test .taken) (c .before .before .before .before .before .before .before .before .before .before .before .before .pre .2) (sym (rw (c .before .fault .given .1, c .before .before .before .before .before .before .before .code-at .ensures) at (c .before .before .before .before .before .examine-code .ensures .1)))),
+          (c .before .before .before .before .before .before .before .before .loop-test .taken) (c .before .before .before .before .before .before .before .before .before .before .before .before .pre .2) (sym (rw (c .before .number .given .1, c .before .before .before .before .before .before .before .code-at .ensures) at (c .before .before .before .before .before .examine-code .ensures .1)))),
     )
 
 loop-again : tie.Need-loop-again Inv-loop μ-loop

@@ -1,3 +1,4 @@
+-- Each turn takes one word with its one or two codes: what is left to draw from here is the whole segment's.
 use mathlib.Core.Path.{_≡_, refl, sym, _∙_}
 use Prim.Native.Nat.{_+_, _*_, _≤_}
 use native.Mathlib.Omega.{arith}
@@ -44,7 +45,7 @@ returns-2 c =
       sym (l .inv .3
           ∙ codes-refused (l .read) (a .mem .now) (a .settings) (a .room .source) (a .room .end) (l .at) (soFar (l .current) (l .cells)) _
           (sym (c .before .before .before .before .before .before .before .before .before .before .before .word-at .ensures) ∙ c .before .before .before .before .before .before .before .before .before .w .given .1) (l .left) (c .before .before .before .before .before .before .before .before .before .before .before .before .loop-test .taken)
-          (sym (rw (c .before .fault .given .1, c .before .before .before .before .before .before .before .codes-in-word .ensures) at (c .before .before .before .before .before .draw-word .ensures .1)))),
+          (sym (rw (c .before .number .given .1, c .before .before .before .before .before .before .before .codes-in-word .ensures) at (c .before .before .before .before .before .draw-word .ensures .1)))),
     )
 
 sub-left : tie.Need-sub-left Inv-loop μ-loop

@@ -1,3 +1,5 @@
+-- A code that takes a word of the list is examined by that word, and one that takes none by the latch. The latch comes first: a code
+-- may have it only where it invokes none or has no list, whatever room is left.
 use mathlib.Core.Path.{ap, sym, _∙_}
 use Prim.Native.Nat.{_+_}
 use native.Mathlib.Omega.{arith}

@@ -1,3 +1,4 @@
+-- The fields are the pen's, and no word is taken yet.
 use borrow.Author.Needs.{needs}
 use Rattle.runs.proofs.with_list.cursor_of.Statement.{statement}
 use Rattle.runs.proofs.with_list.cursor_of.Tie as tie

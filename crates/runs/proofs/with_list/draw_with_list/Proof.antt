@@ -1,3 +1,4 @@
+-- The words are all there, so the segment reads as its codes examined one after the other: pairs first, then the odd one.
 use mathlib.Core.Path.{refl, sym, _∙_}
 use Prim.Native.Nat.{_+_, _/_, _<_}
 use native.Mathlib.Omega.{arith}

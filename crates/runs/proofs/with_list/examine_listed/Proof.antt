@@ -1,3 +1,4 @@
+-- A code that invokes takes the word that is there; the cell and the cursor are those of the definition either way.
 use mathlib.Core.Path.{_≡_, refl, ap, sym, _∙_}
 use mathlib.Core.Bool.{true, false}
 use Prim.Native.Nat.{_+_, _/_}

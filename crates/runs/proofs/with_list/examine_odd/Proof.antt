@@ -1,3 +1,4 @@
+-- One code is left where their count is odd, and none where it is even.
 use mathlib.Core.Path.{_≡_, ap, _∙_}
 use mathlib.Core.List.{List, []}
 use Prim.Native.Nat.{ℕ, _+_, _-_, _*_, _/_}

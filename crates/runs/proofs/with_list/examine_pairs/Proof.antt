@@ -1,3 +1,4 @@
+-- Each turn examines both codes of a word: what is left to examine from here is the whole segment's.
 use mathlib.Core.Path.{_≡_, refl, ap, ap₂, _∙_}
 use mathlib.Core.List.{List, _∷_}
 use Prim.Native.Nat.{ℕ, _+_, _-_, _*_, _/_, _≤_, _<_}

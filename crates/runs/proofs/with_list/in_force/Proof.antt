@@ -1,3 +1,4 @@
+-- An ignored character stands before no column, so its limit is 0.
 use mathlib.Core.Path.{sym, _∙_}
 use borrow.Author.Needs.{needs}
 use Rattle.runs.proofs.with_list.in_force.Statement.{statement}

@@ -1,3 +1,4 @@
+-- The list has moved on by the words taken.
 use borrow.Author.Needs.{needs}
 use Rattle.runs.proofs.with_list.pen_of.Statement.{statement}
 use Rattle.runs.proofs.with_list.pen_of.Tie as tie

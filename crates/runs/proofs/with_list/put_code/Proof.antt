@@ -1,3 +1,4 @@
+-- A character goes in before the limit, which is the definition's test of ignore and room in one.
 use mathlib.Core.Path.{ap}
 use native.Mathlib.Omega.{arith}
 use borrow.Author.Tests.{lt-ltb, le-ltb}

@@ -1,3 +1,4 @@
+-- Either side of bit 15 is the definition's.
 use mathlib.Core.Path.{sym, _∙_}
 use borrow.Author.Needs.{needs}
 use Rattle.runs.proofs.with_list.with_word.Statement.{statement}

@@ -1,3 +1,4 @@
+-- An ignored latch draws nothing; else pairs as far as there is room for both, then one character more or none.
 use mathlib.Core.Path.{_≡_, sym, _∙_}
 use mathlib.Core.Bool.{true, _||_, not}
 use Prim.Native.Nat.{_+_, _-_, _*_, _/_}

@@ -1,3 +1,4 @@
+-- Each turn puts two characters that have room: the characters left from here are all of them.
 use mathlib.Core.Path.{_≡_, refl, ap, ap₂, _∙_}
 use mathlib.Core.List.{List}
 use mathlib.Core.Bool.{Bool, true, _||_, not}

@@ -1,3 +1,4 @@
+-- The words are all there and no code takes one of a list, so the segment reads as characters with the latch.
 use mathlib.Core.Path.{refl, ap, sym, _∙_}
 use Prim.Native.Nat.{_+_, _/_}
 use native.Mathlib.Omega.{arith}

@@ -1,2 +1,0 @@
-pub mod FollowLaws
-pub mod LatchLaws

@@ -1,0 +1,2 @@
+pub mod RowLatchLaws
+pub mod LatchLaws
