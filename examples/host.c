@@ -1,4 +1,4 @@
-/* Sheet S of document 01, drawn through the calls of a console; it prints what the draw program prints.
+/* Sheet S of document 01, a first frame (latch 0), drawn through the calls of a console; it prints what the draw program prints.
  *
  *     rt staticlib thagaduvin
  *     cc -O2 -Iinclude examples/host.c target/staticlib/libthagaduvin.a -o target/host && target/host */
@@ -23,7 +23,7 @@ int main(void) {
     uint32_t state[THAGADUVIN_STATE], cells[THAGADUVIN_CELLS];
     uint32_t began[THAGADUVIN_START_ANSWER], answer[THAGADUVIN_ROW_ANSWER];
     uint32_t *told = began, words = 0, columns = settings[THAGADUVIN_HTD] - settings[THAGADUVIN_HSD];
-    uint8_t status = thagaduvin_start(settings, THAGADUVIN_SETTINGS, memory, 16384, state, THAGADUVIN_STATE, began, THAGADUVIN_START_ANSWER);
+    uint8_t status = thagaduvin_start(settings, THAGADUVIN_SETTINGS, memory, 16384, 0, state, THAGADUVIN_STATE, began, THAGADUVIN_START_ANSWER);
     if (status == 0) words = began[THAGADUVIN_START_WORDS];
     while (status == 0 && state[THAGADUVIN_LEFT] != 0) {
         told = answer;

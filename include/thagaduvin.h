@@ -60,7 +60,7 @@ enum {
 
 /* Every answer begins with these two. */
 enum {
-    THAGADUVIN_ANSWER_ROW,     /* the row of the call; 0 for a sheet and a start */
+    THAGADUVIN_ANSWER_ROW,     /* the row of the call; 0 for a sheet, a start and a latch */
     THAGADUVIN_ANSWER_ADDRESS  /* the address of a refusal; 0 in an accepted call */
 };
 
@@ -117,17 +117,31 @@ enum {
     THAGADUVIN_APPLY_ANSWER    /* 3 numbers */
 };
 
+/* The answer of a latch call: the latch that the frame hands on. */
+enum {
+    THAGADUVIN_HANDED_ON = 2,
+    THAGADUVIN_LATCH_ANSWER    /* 3 numbers */
+};
+
 /* The settings sheet. */
 uint8_t thagaduvin_sheet(const uint32_t *settings, size_t settings_count, uint32_t *answer, size_t answer_count);
 
-/* A frame's first state, into `state`, whatever stood there. The word at the byte address a is memory[a / 2]. */
+/* A frame's first state, into `state`, whatever stood there. The word at the byte address a is memory[a / 2]. `latch` is the latch that
+ * the frame before handed on, 0 for the first frame after reset; any is taken, and the state's latch is it. A refused start gives no
+ * state, and the frame hands on `latch`: the console keeps it for the next start. */
 uint8_t thagaduvin_start(const uint32_t *settings, size_t settings_count, const uint16_t *memory, size_t memory_count,
-                         uint32_t *state, size_t state_count, uint32_t *answer, size_t answer_count);
+                         uint16_t latch, uint32_t *state, size_t state_count, uint32_t *answer, size_t answer_count);
 
 /* The row of `state`: its cells into `cells`, and the next state into `state`. */
 uint8_t thagaduvin_row(const uint32_t *settings, size_t settings_count, const uint16_t *memory, size_t memory_count,
                        uint32_t *state, size_t state_count, uint32_t *cells, size_t cells_count, uint32_t *answer,
                        size_t answer_count);
+
+/* The latch that a frame hands on to the next start, from the `latch` that it was started with and the state that it ended with: the
+ * state's latch where no line is left, else `latch`, since a refused frame hands on the latch it was started with, and so does one that
+ * is left half way. A frame ends at its first refused row, even if rows are drawn from that state later; a call refused 1 is no row and
+ * ends no frame. The status is 0 or 255. */
+uint8_t thagaduvin_latch(uint16_t latch, const uint32_t *state, size_t state_count, uint32_t *answer, size_t answer_count);
 
 /* The effect of the row of `state` on any latch, into `effect`; and the next state into `state`, all but its latch, which stays. Where
  * both parts refuse, all of `state` stays. A refusal stands in the parts: the status is 0 or 255. */

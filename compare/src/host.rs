@@ -16,6 +16,7 @@ pub const SHEET_ANSWER: usize = 13;
 pub const START_ANSWER: usize = 3;
 pub const ROW_ANSWER: usize = 7;
 pub const APPLY_ANSWER: usize = 3;
+pub const LATCH_ANSWER: usize = 3;
 
 const ANY: u32 = u32::MAX;
 
@@ -259,9 +260,15 @@ pub fn sheet(settings: &[u32], answer: &mut [u32]) -> u8 {
     }
 }
 
-/// A frame's first state.
+/// A frame's first state, from a latch.
 #[inline(never)]
-pub fn start(settings: &[u32], memory: &[u16], state: &mut [u32], answer: &mut [u32]) -> u8 {
+pub fn start(
+    settings: &[u32],
+    memory: &[u16],
+    latch: u16,
+    state: &mut [u32],
+    answer: &mut [u32],
+) -> u8 {
     let Ok(state) = <&mut [u32; STATE]>::try_from(state) else {
         return UNFIT;
     };
@@ -271,7 +278,7 @@ pub fn start(settings: &[u32], memory: &[u16], state: &mut [u32], answer: &mut [
     let Some(settings) = settings_of(settings) else {
         return UNFIT;
     };
-    match rules::start(&settings, memory) {
+    match rules::start(&settings, memory, latch) {
         Ok(start) => {
             write_state(&start.state, state);
             *answer = [0, 0, start.words];
@@ -365,4 +372,22 @@ pub fn apply(effect: &[u32], latch: u16, answer: &mut [u32]) -> u8 {
         }
         Err(refusal) => refuse(refusal, answer),
     }
+}
+
+/// The latch that a frame hands on, from the one that it was started with and its last state. A row
+/// that is refused leaves lines, so the state says whether the frame came to its end.
+#[inline(never)]
+pub fn latch(latch: u16, state: &[u32], answer: &mut [u32]) -> u8 {
+    let Ok(answer) = <&mut [u32; LATCH_ANSWER]>::try_from(answer) else {
+        return UNFIT;
+    };
+    let Some(state) = state_of(state) else {
+        return UNFIT;
+    };
+    let handed_on = match state.fields.lines_left {
+        0 => state.latch,
+        _ => latch,
+    };
+    *answer = [0, 0, handed_on.into()];
+    0
 }

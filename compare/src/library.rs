@@ -13,6 +13,7 @@ extern "C" {
         settings_count: usize,
         memory: *const u16,
         memory_count: usize,
+        latch: u16,
         state: *mut u32,
         state_count: usize,
         answer: *mut u32,
@@ -55,6 +56,13 @@ extern "C" {
         answer: *mut u32,
         answer_count: usize,
     ) -> u8;
+    fn thagaduvin_latch(
+        latch: u16,
+        state: *const u32,
+        state_count: usize,
+        answer: *mut u32,
+        answer_count: usize,
+    ) -> u8;
 }
 
 #[inline]
@@ -70,13 +78,20 @@ pub fn sheet(settings: &[u32], answer: &mut [u32]) -> u8 {
 }
 
 #[inline]
-pub fn start(settings: &[u32], memory: &[u16], state: &mut [u32], answer: &mut [u32]) -> u8 {
+pub fn start(
+    settings: &[u32],
+    memory: &[u16],
+    latch: u16,
+    state: &mut [u32],
+    answer: &mut [u32],
+) -> u8 {
     unsafe {
         thagaduvin_start(
             settings.as_ptr(),
             settings.len(),
             memory.as_ptr(),
             memory.len(),
+            latch,
             state.as_mut_ptr(),
             state.len(),
             answer.as_mut_ptr(),
@@ -146,6 +161,19 @@ pub fn apply(effect: &[u32], latch: u16, answer: &mut [u32]) -> u8 {
             effect.as_ptr(),
             effect.len(),
             latch,
+            answer.as_mut_ptr(),
+            answer.len(),
+        )
+    }
+}
+
+#[inline]
+pub fn latch(latch: u16, state: &[u32], answer: &mut [u32]) -> u8 {
+    unsafe {
+        thagaduvin_latch(
+            latch,
+            state.as_ptr(),
+            state.len(),
             answer.as_mut_ptr(),
             answer.len(),
         )

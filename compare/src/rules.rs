@@ -397,12 +397,12 @@ fn window_block(
     })
 }
 
-/// Begins a frame.
-pub fn start(settings: &Settings, memory: &[u16]) -> Result<Start, Refusal> {
-    begin(settings, memory).map_err(|stop| stop.at_row(0))
+/// Begins a frame from the latch that the one before handed on; the first after reset from 0.
+pub fn start(settings: &Settings, memory: &[u16], latch: u16) -> Result<Start, Refusal> {
+    begin(settings, memory, latch).map_err(|stop| stop.at_row(0))
 }
 
-fn begin(settings: &Settings, memory: &[u16]) -> Result<Start, Stop> {
+fn begin(settings: &Settings, memory: &[u16], latch: u16) -> Result<Start, Stop> {
     if !settings.good() {
         return Err(Stop::bare(2));
     }
@@ -433,7 +433,7 @@ fn begin(settings: &Settings, memory: &[u16]) -> Result<Start, Stop> {
         window,
     };
     Ok(Start {
-        state: State { latch: 0, fields },
+        state: State { latch, fields },
         words: if window.is_some() { 13 } else { 7 },
     })
 }

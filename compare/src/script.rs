@@ -138,7 +138,8 @@ fn line(out: &mut Vec<u8>, text: std::fmt::Arguments) {
 }
 
 fn draw(settings: &Settings, memory: &[u16], out: &mut Vec<u8>) -> Result<(), Refusal> {
-    let start = rules::start(settings, memory)?;
+    // A first frame.
+    let start = rules::start(settings, memory, 0)?;
     let mut state = start.state;
     let mut words = start.words;
     let mut rows = 0;

@@ -89,34 +89,39 @@ impl Board {
         self.write(address, &words)
     }
 
-    /// Rows of a frame up to its end or first refusal.
+    /// Rows of a first frame up to its end or first refusal.
     fn frame(&self, settings: &Settings) -> (Vec<(Row, [u32; CELLS])>, Option<Refusal>) {
         let mut rows = Vec::new();
-        let mut state = match start(settings, &self.memory) {
-            Ok(start) => start.state,
-            Err(refusal) => return (rows, Some(refusal)),
-        };
+        let ended = self.frame_from(settings, 0, &mut rows);
+        (rows, ended.err())
+    }
+
+    /// A frame from a latch, its rows put into a list: the latch that it ends with, or a refusal.
+    fn frame_from(
+        &self,
+        settings: &Settings,
+        latch: u16,
+        rows: &mut Vec<(Row, [u32; CELLS])>,
+    ) -> Result<u16, Refusal> {
+        let mut state = start(settings, &self.memory, latch)?.state;
         while state.fields.lines_left > 0 {
             let mut cells = [0; CELLS];
-            match row(settings, &self.memory, &mut state, &mut cells) {
-                Ok(answer) => rows.push((answer, cells)),
-                Err(refusal) => return (rows, Some(refusal)),
-            }
+            let answer = row(settings, &self.memory, &mut state, &mut cells)?;
+            rows.push((answer, cells));
         }
-        (rows, None)
+        Ok(state.latch)
     }
 
     /// The first row from a latch.
     fn first_row(&self, settings: &Settings, latch: u16) -> Result<[u32; CELLS], Refusal> {
-        let mut state = start(settings, &self.memory)?.state;
-        state.latch = latch;
+        let mut state = start(settings, &self.memory, latch)?.state;
         let mut cells = [0; CELLS];
         row(settings, &self.memory, &mut state, &mut cells)?;
         Ok(cells)
     }
 
     fn first_effect(&self, settings: &Settings) -> Effect {
-        let state = start(settings, &self.memory).unwrap().state;
+        let state = start(settings, &self.memory, 0).unwrap().state;
         effect(settings, &self.memory, &state.fields).0
     }
 }
@@ -151,7 +156,7 @@ fn p4_pointer_first_word() {
 #[test]
 fn p5_p6_rows_of_s() {
     let s = script::parse(&sheet_s()).unwrap();
-    let begun = start(&s.settings, &s.memory).unwrap();
+    let begun = start(&s.settings, &s.memory, 0).unwrap();
     assert_eq!(begun.words, 7);
     let mut state = begun.state;
     let mut cells = [7; CELLS];
@@ -581,6 +586,39 @@ fn joining_effects() {
     }
 }
 
+/// The latch of a frame's last row is that of the next one's first characters; a refused frame
+/// hands on the latch that it was started with.
+#[test]
+fn frames_in_turn() {
+    let settings = wide();
+    let mut board = Board::new(0x0020);
+    board
+        .row(0x100, 0x110, &[(0x200, 0, 2, 2)])
+        .row(0x110, 0, &[(0x210, 0x300, 2, 2)])
+        .write(0x200, &[0x4142])
+        .write(0x210, &[0x8043])
+        .write(0x300, &[0x8002]);
+    let draw = |board: &Board, latch| {
+        let mut rows = Vec::new();
+        let ended = board.frame_from(&settings, latch, &mut rows);
+        (ended.unwrap_or(latch), rows)
+    };
+    let (latch, rows) = draw(&board, 0);
+    assert_eq!(latch, 0x8002);
+    assert_eq!(rows[0].1[..3], [0x100041, 0x100042, 0x20]);
+    let (latch, rows) = draw(&board, latch);
+    assert_eq!(latch, 0x8002);
+    assert_eq!(rows[0].1[..3], [0x100241, 0x100242, 0x220]);
+    // Row 1 latches, row 2 is refused.
+    board.write(0x112, &[0xF000]);
+    let (latch, rows) = draw(&board, 0x1234);
+    assert_eq!((latch, rows.len()), (0x1234, 2));
+    // A refused start.
+    board.memory.truncate(8);
+    let (latch, rows) = draw(&board, latch);
+    assert_eq!((latch, rows.len()), (0x1234, 0));
+}
+
 #[test]
 fn refused_scripts() {
     let refused = |bytes: &[u8]| output(bytes);
@@ -630,7 +668,7 @@ fn named_vectors() {
 fn begin(case: &Case) -> Option<State> {
     match case.state {
         Some(state) => Some(state),
-        None => start(&case.settings, &case.memory)
+        None => start(&case.settings, &case.memory, 0)
             .ok()
             .map(|start| start.state),
     }
@@ -650,7 +688,7 @@ struct Tally {
 /// Runs a case's calls, each held against the plain form, and tallies refusals.
 fn compare_case(case: &Case, tally: &mut Tally) {
     let (settings, memory) = (&case.settings, &case.memory[..]);
-    if let Err(refusal) = start(settings, memory) {
+    if let Err(refusal) = start(settings, memory, 0) {
         if case.state.is_none() {
             tally.calls[usize::from(refusal.number)] += 1;
         }

@@ -149,7 +149,7 @@ fn round(mut call: impl FnMut()) -> f64 {
 
 impl Bench {
     fn new((settings, memory): (Settings, Vec<u16>)) -> Bench {
-        let begun = rules::start(&settings, &memory)
+        let begun = rules::start(&settings, &memory, 0)
             .expect("a good start")
             .state;
         Bench {

@@ -54,7 +54,7 @@ fn read_some(s: Script, mem: &mut [u16]) -> Step {
 
 // A frame: its start, then its rows.
 fn draw(settings: Settings, mem: &[u16]) {
-    match frame::begin(settings, mem) {
+    match frame::begin(settings, mem, 0) {
         BeginAnswer::Refused(refusal) => print_refusal(refusal),
         BeginAnswer::Begun(progress) => draw_rows(settings, mem, progress),
     }

@@ -1,3 +1,4 @@
 pub mod Joining
 pub mod Alone
 pub mod EffectLaws
+pub mod FromStart

@@ -84,7 +84,8 @@ module _ (σ : Settings) (m : List ℕ) where
       else drawnAlone first f above cs
 
 -- "these effects can be joined in any grouping with the same outcome, and an empty one changes nothing"; and the claim about a list
--- of row calls, "from a start's state or any other", with no row above the first: "the first on the first state's other fields"
+-- of row calls, "from a start's state or any other", with no row above the first: "the first on the first state's other fields". A
+-- start's state has the latch that the frame before handed on (`FromStart.frame-alone`).
 pub record Demand3 : Type 0 where
   pub grouping : (a b c : Effect) → join (join a b) c ≡ join a (join b c)
   pub emptyBefore : (e : Effect) → join empty e ≡ e

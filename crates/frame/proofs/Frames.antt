@@ -60,13 +60,13 @@ module _ (σ : Settings) (m : List ℕ) (w : Words m) where
   -- what holds of a frame that stops, and of a row with the frame from there, holds of every frame
   module _ (P : Progress → Frame → Type 0)
       (ended : (p : Progress) → p .state .fields .left ≡ 0 → P p (stopped none p))
-      (refuses : (p : Progress) (r : Refusal) → P p (stopped (some r) p))
+      (refuses : (p : Progress) (r : Refusal) → (p .state .fields .left ≡ 0 → ⊥) → P p (stopped (some r) p))
       (drawn : (p q : Progress) (r : DrawnRow) (cells : List ℕ) (f : Frame) → Advanced p r q → P q f → P p (withRow r cells f)) where
     by-answer : (go-on : Progress → Frame) (p : Progress) (x : StepAnswer) (cells : List ℕ) → Advances p x
         → ((q : Progress) → q .state .fields .left < p .state .fields .left → P q (go-on q)) → P p (byAnswer go-on p x cells)
     by-answer go-on p (Drawn r q) cells h k = drawn p q r cells (go-on q) h (k q (h .fewer))
     by-answer go-on p (Ended rows words) cells h k = ended p (h .0)
-    by-answer go-on p (Refused r) cells h k = refuses p r
+    by-answer go-on p (Refused r) cells h k = refuses p r h
 
     followed : (n : ℕ) (p : Progress) → p .state .fields .left ≤ n → P p (within n σ m p)
     unfolding within
@@ -86,19 +86,19 @@ module _ (σ : Settings) (m : List ℕ) (w : Words m) where
   -- "the lines run out"
   pub rest-ends : (p : Progress) → Ends (rest σ m p)
   rest-ends =
-      induction (λ p f. Ends f) (λ p h. complete refl refl h) (λ p r. refusing refl) (λ p q r cells f h i. row-ends r cells f i)
+      induction (λ p f. Ends f) (λ p h. complete refl refl h) (λ p r l. refusing refl) (λ p q r cells f h i. row-ends r cells f i)
 
   -- no more rows than lines are left, and no more than 4,095 from any frame in progress
   pub rest-rows : (p : Progress) → (length (rest σ m p .rows) ≤ p .state .fields .left) × (length (rest σ m p .rows) ≤ 4095)
   rest-rows =
       induction (λ p f. (length (f .rows) ≤ p .state .fields .left) × (length (f .rows) ≤ 4095)) (λ p h. (zero-le, zero-le))
-      (λ p r. (zero-le, zero-le)) (λ p q r cells f h i. (omega arith, omega arith))
+      (λ p r l. (zero-le, zero-le)) (λ p q r cells f h i. (omega arith, omega arith))
 
   -- the words read so far, and those of the rows to come
   pub rest-words : (p : Progress) → rest σ m p .words ≡ p .words + rowWords (rest σ m p .rows)
   unfolding rowWords
   rest-words =
-      induction (λ p f. f .words ≡ p .words + rowWords (f .rows)) (λ p h. omega arith) (λ p r. omega arith)
+      induction (λ p f. f .words ≡ p .words + rowWords (f .rows)) (λ p h. omega arith) (λ p r l. omega arith)
       (λ p q r cells f h i. omega (arith, ap (λ (q : Progress). q .words) (h .next)))
 
   stays : (p : Progress) (s : State) → _≡_ {A = Option State} (some (p .state)) (some s) → s .fields .row ≡ p .state .fields .row + 0
@@ -109,7 +109,7 @@ module _ (σ : Settings) (m : List ℕ) (w : Words m) where
       → s .fields .row ≡ p .state .fields .row + length (rest σ m p .rows)
   rest-count =
       induction (λ p f. (s : State) → f .state ≡ some s → s .fields .row ≡ p .state .fields .row + length (f .rows)) (λ p h. stays p)
-      (λ p r. stays p) (λ p q r cells f h i s e. omega (arith, i s e, h .numbered))
+      (λ p r l. stays p) (λ p q r cells f h i s e. omega (arith, i s e, h .numbered))
 
   -- ---- from a start ----
   pub frame-ends : (latch : ℕ) → Ends (frame latch σ m)
@@ -136,4 +136,4 @@ module _ (σ : Settings) (m : List ℕ) (w : Words m) where
 
     pub frame-count : (t : State) → frame latch σ m .state ≡ some t → t .fields .row ≡ length (frame latch σ m .rows)
     unfolding frame begin
-    frame-count = rw e λ t h. omega (arith, rest-count (record { state = s; words = n }) t h, reads-given 0 m w (start-reads latch σ) e .1)
+    frame-count = rw e λ t h. omega (arith, rest-count (record { state = s; words = n }) t h, reads-given 0 m w (start-reads latch σ) e .1 .0)

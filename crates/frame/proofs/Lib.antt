@@ -1,3 +1,4 @@
 pub mod StepLaws
 pub mod Frames
 pub mod Calls
+pub mod HandedOn

@@ -5,7 +5,7 @@ use mathlib.Core.List.{List}
 use Prim.Native.Nat.{ℕ, _+_, _<_, _≤_}
 use lib.ListN.{length}
 use lib.Dec.{eqb}
-use borrow.Author.Tests.{ne-eqb, eqb-true}
+use borrow.Author.Tests.{ne-eqb, eqb-true, eqb-false}
 use Rattle.memory.specs.Word.{if_then_else_}
 use Rattle.memory.specs.Reading.{Outcome, given, refused, run}
 use Rattle.memory.proofs.ReadBounds.{Words, if-cases}
@@ -39,30 +39,32 @@ pub record Advanced (p : Progress) (r : DrawnRow) (q : Progress) : Type 0 where
   pub numbered : q .state .fields .row ≡ p .state .fields .row + 1
   pub fewer : q .state .fields .left < p .state .fields .left
 
--- what a step does with it: a row, its end, or a refusal
+-- what a step does with it: a row, its end, or a refusal, of a row that had a line
 abbrev pub Advances : Progress → StepAnswer → Type 0
 Advances p (Drawn r q) = Advanced p r q
 Advances p (Ended rows words) = (p .state .fields .left ≡ 0) × (rows ≡ p .state .fields .row) × (words ≡ p .words)
-Advances p (Refused r) = Unit
+Advances p (Refused r) = p .state .fields .left ≡ 0 → ⊥
 
 module _ (σ : Settings) (m : List ℕ) (w : Words m) (p : Progress) where
-  advances-by : (b : List ℕ) (o : Outcome Row) → run m (row σ (p .state)) ≡ o
+  advances-by : (p .state .fields .left ≡ 0 → ⊥) → (b : List ℕ) (o : Outcome Row) → run m (row σ (p .state)) ≡ o
       → Advances p (rowStep p (answered σ (p .state .fields) b o .answer))
-  advances-by b (given n r) e =
+  advances-by l b (given n r) e =
       let k = row-drawn σ m w (p .state) e in
       record { next = refl; few = k .0; within = k .1 .within; numbered = k .1 .numbered; fewer = k .1 .fewer }
-  advances-by b (refused x) e = tt
+  advances-by l b (refused x) e = l
 
-  row-advances : (b : List ℕ) → Advances p (rowStep p (rowCall σ m (p .state) b .answer))
+  row-advances : (p .state .fields .left ≡ 0 → ⊥) → (b : List ℕ) → Advances p (rowStep p (rowCall σ m (p .state) b .answer))
   unfolding rowCall
-  row-advances b =
+  row-advances l b =
       if-cases (λ (c : Called). Advances p (rowStep p (c .answer))) (eqb (length b) 132)
-      (λ _. advances-by b (run m (row σ (p .state))) refl) (λ _. tt)
+      (λ _. advances-by l b (run m (row σ (p .state))) refl) (λ _. l)
 
   -- a step with any row buffer
   pub advances : (b : List ℕ) → Advances p (step σ m p b .answer)
   unfolding step
-  advances b = if-cases (λ (s : Stepped). Advances p (s .answer)) (eqb (p .state .fields .left) 0) (λ h. (eqb-true _ 0 h, refl, refl)) (λ _. row-advances b)
+  advances b =
+      if-cases (λ (s : Stepped). Advances p (s .answer)) (eqb (p .state .fields .left) 0) (λ h. (eqb-true _ 0 h, refl, refl))
+      (λ h. row-advances (eqb-false _ 0 h) b)
 
   pub advanced : (b : List ℕ) {cells : List ℕ} {r : DrawnRow} {q : Progress} → stepped (Drawn r q) cells ≡ step σ m p b → Advanced p r q
   advanced b e = subst (Advances p) (ap (λ (s : Stepped). s .answer) (sym e)) (advances b)

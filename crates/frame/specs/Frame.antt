@@ -75,6 +75,35 @@ fromBegin σ m (Begin.Refused r) = notStarted r
 unfoldable pub frame : ℕ → Settings → List ℕ → Frame
 frame latch σ m = fromBegin σ m (begin latch σ m)
 
+-- What a frame hands on: "A frame starts with the latch that the frame before ended with", that of its last row; "A refused frame
+-- hands on the latch it was started with."
+abbrev pub latchOf : ℕ → Option State → ℕ
+latchOf latch none = latch
+latchOf latch (some s) = s .latch
+
+abbrev pub handedOnBy : ℕ → Option Refusal → Option State → ℕ
+handedOnBy latch none s = latchOf latch s
+handedOnBy latch (some r) s = latch
+
+abbrev pub handedOn : ℕ → Frame → ℕ
+handedOn latch f = handedOnBy latch (f .refusal) (f .state)
+
+-- what a frame is drawn from
+pub record Screen : Type 0 where
+  pub settings : Settings
+  pub memory : List ℕ
+
+-- frames in a row, the first from a latch
+unfoldable pub frames : ℕ → List Screen → List Frame
+frames latch [] = []
+frames latch (d ∷ ds) =
+    let f : Frame = frame latch (d .settings) (d .memory) in
+    f ∷ frames (handedOn latch f) ds
+
+-- "the first after reset with 0"
+abbrev pub fromReset : List Screen → List Frame
+fromReset ds = frames 0 ds
+
 -- the words of rows together
 unfoldable pub rowWords : List FrameRow → ℕ
 rowWords [] = 0

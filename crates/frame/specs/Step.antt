@@ -23,7 +23,7 @@ abbrev pub begun : StartAnswer → BeginAnswer
 begun (Start.Accepted a) = Begin.Begun (record { state = a .state; words = a .words })
 begun (Start.Refused r) = Begin.Refused r
 
--- a start, from any latch: of the latch, "It is 0 at the start of a frame.", and 02's first request hands one on
+-- a start, from the latch that the frame before handed on
 unfoldable pub begin : ℕ → Settings → List ℕ → BeginAnswer
 begin latch σ m = begun (started (run m (startFrom latch σ)))
 

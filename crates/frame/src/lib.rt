@@ -6,6 +6,7 @@ use settings::Settings;
 use start::StartAnswer;
 use state::State;
 ghost use mathlib.Core.Path.{_≡_};
+ghost use Rattle.frame.specs.HandedOn.{latchAfter, HandsOn};
 ghost use Rattle.frame.specs.Step.{begin, stepped, step, inBound, boundWords, FewerLines};
 
 // A frame in progress: the state that its next row is called on, and the words that its start and its rows so far have read.
@@ -28,11 +29,11 @@ pub enum StepAnswer {
     Refused(Refusal),
 }
 
-// A frame's start: the frame in progress before its first row, or the start's refusal.
-pub fn begin(settings: Settings, mem: &[u16]) -> BeginAnswer
-    ensures { λ r. ⌜ r ≡ begin 0 settings (now (mem .entry)) ⌝ }
+// A frame's start from a latch: the frame in progress before its first row, or the start's refusal.
+pub fn begin(settings: Settings, mem: &[u16], latch: u16) -> BeginAnswer
+    ensures { λ r. ⌜ r ≡ begin latch settings (now (mem .entry)) ⌝ }
 {
-    match start::start(settings, mem) {
+    match start::start(settings, mem, latch) {
         StartAnswer::Refused(refusal) => BeginAnswer::Refused(refusal),
         StartAnswer::Accepted(started) => {
             let state = started.state;
@@ -69,6 +70,18 @@ pub fn step(settings: Settings, mem: &[u16], progress: Progress, buffer: &mut [u
             StepAnswer::Drawn { row, progress }
         }
     }
+}
+
+// The latch that a frame hands on to the next one, from the latch that it was started with and the state that it ended with. A frame
+// whose start was refused has no state, and hands on the latch that it was started with.
+pub fn handed_on(latch: u16, state: State) -> u16
+    ensures { λ r. ⌜ r ≡ latchAfter latch state ⌝ }
+    ensures { λ r. ⌜ HandsOn latch state r ⌝ }
+{
+    if 0 < state.fields.left {
+        return latch;
+    }
+    state.latch
 }
 
 // A count of words that a frame can have, so that a row's words can be added.

@@ -37,6 +37,8 @@ use Rattle.codes.specs.Codes.{taking, put, character, examine, wordCodes, codes
 use Rattle.cells.specs.Cells.{filled, fillByWord, fillTo, segment, segmentsTo, rowCells}
 use Rattle.row.specs.Row.{Called, row, withCursor, rowCall}
 use Rattle.start.specs.Start.{firstFields, windowStart, startFrom, startCall}
+use Rattle.frame.specs.Step.{begin, step}
+use Rattle.frame.specs.Frame.{within, rest, frame, handedOn}
 use Rattle.effect.specs.declared.Part.{Part}
 use Rattle.effect.specs.declared.Part.the-variants.{Keep, Set, Refuse}
 use Rattle.effect.specs.Effect.{outcomeFor, effectCall}
@@ -137,14 +139,14 @@ buffer = replicate 132 0
 
 -- the first row of a frame
 firstRow : Settings → List ℕ → Called
-firstRow σ m = rowCall σ m (stateOfStart (startCall σ m)) buffer
+firstRow σ m = rowCall σ m (stateOfStart (startCall 0 σ m)) buffer
 
 -- the parts of the first row's effect, ignore clear and ignore set
 clearPart : Settings → List ℕ → List ℕ
-clearPart σ m = partShown (effectCall σ m (stateOfStart (startCall σ m) .fields) .effect .clear)
+clearPart σ m = partShown (effectCall σ m (stateOfStart (startCall 0 σ m) .fields) .effect .clear)
 
 setPart : Settings → List ℕ → List ℕ
-setPart σ m = partShown (effectCall σ m (stateOfStart (startCall σ m) .fields) .effect .set)
+setPart σ m = partShown (effectCall σ m (stateOfStart (startCall 0 σ m) .fields) .effect .set)
 
 row0 : Called
 row0 = firstRow sheetS memoryS
@@ -233,13 +235,17 @@ tests =
     -- P4
     ∷ eqb (pointer false 0x0123 0 .address) 0x10000 ∷ eqb (pointer true 0x0123 0 .address) 0x230000
     -- the start of S
-    ∷ eqb (wordsOfStart (startCall sheetS memoryS)) 7
+    ∷ eqb (wordsOfStart (startCall 0 sheetS memoryS)) 7
     -- P5
     ∷ same (shown row0) (0 ∷ 8 ∷ 0 ∷ 0 ∷ 31 ∷ 12 ∷ 0x100041 ∷ 0x500042 ∷ 0x100281 ∷ replicate 129 0x220)
     -- P6
     ∷ same (shown row1) (1 ∷ 8 ∷ 0 ∷ 0 ∷ 31 ∷ 3 ∷ replicate 132 0x220)
     -- S has two rows: then no lines are left
     ∷ same (shown (rowCall sheetS memoryS (stateAfter (row1 .answer)) buffer)) (4 ∷ 2 ∷ 0 ∷ [])
+    -- 02: S hands on 8002, and the characters of its second frame have that underline; from a refused frame 1 is handed on as it was
+    ∷ eqb (handedOn 0 (frame 0 sheetS memoryS)) 0x8002
+    ∷ same (cellsFrom 0 4 (rowCall sheetS memoryS (stateOfStart (startCall 0x8002 sheetS memoryS)) buffer)) (0x100241 ∷ 0x500242 ∷ 0x100281 ∷ 0x220 ∷ [])
+    ∷ eqb (handedOn 1 (frame 1 plain (two 33))) 1
     -- P7
     ∷ same (times (sheetCall sheetS)) (2 ∷ 2 ∷ 32 ∷ 8 ∷ 44 ∷ [])
     -- P8
@@ -277,5 +283,5 @@ tests =
     ∷ []
 
 pub marked : every tests ≡ true
-unfolding same every shownAs shown cellsFrom partShown times settings sheetS memoryS stateAt at stateOfStart wordsOfStart stateAfter buffer firstRow clearPart setPart row0 row1 oddRow padded page one two plain video nine ten twelve windowOn inHand nextShown tests _>>=_ each runFrom pointer nextWord ahead words good checkSettings timing linesForRows clocks halved invokingCodes sheetOf sheetCall ones onesIn mainBlock mainBlockAt segmentOf segmentsOf restOfBlock blockAt rowBlockAt windowRowAt formatOf redefined W.windowOf W.windowAt W.firstWindow W.dueWindow S.windowInRange S.inRange invokes sourceNumber cell width total allFit boundary edgesFit covered onSide segmentsOn windowRow overlaid nextFields backgroundBlock backgroundRow plan taking put character examine wordCodes codes filled fillByWord fillTo segment segmentsTo rowCells row withCursor rowCall firstFields windowStart startFrom startCall outcomeFor effectCall
+unfolding same every shownAs shown cellsFrom partShown times settings sheetS memoryS stateAt at stateOfStart wordsOfStart stateAfter buffer firstRow clearPart setPart row0 row1 oddRow padded page one two plain video nine ten twelve windowOn inHand nextShown tests _>>=_ each runFrom pointer nextWord ahead words good checkSettings timing linesForRows clocks halved invokingCodes sheetOf sheetCall ones onesIn mainBlock mainBlockAt segmentOf segmentsOf restOfBlock blockAt rowBlockAt windowRowAt formatOf redefined W.windowOf W.windowAt W.firstWindow W.dueWindow S.windowInRange S.inRange invokes sourceNumber cell width total allFit boundary edgesFit covered onSide segmentsOn windowRow overlaid nextFields backgroundBlock backgroundRow plan taking put character examine wordCodes codes filled fillByWord fillTo segment segmentsTo rowCells row withCursor rowCall firstFields windowStart startFrom startCall begin step within rest frame outcomeFor effectCall
 marked = refl

@@ -4,7 +4,6 @@
 use settings::Interlace;
 use settings::PointerWords;
 use settings::Settings;
-use state::State;
 
 pub(crate) fn settings(n: u16) -> Settings {
     let interlace = Interlace::Progressive;
@@ -50,16 +49,9 @@ fn first_window(n: u16) -> u16 {
     if n == 0 { 0x0100 } else { 0 }
 }
 
-pub(crate) fn first_state(n: u16, start: State) -> State {
-    if n < 4 {
-        start
-    } else {
-        let fields = start.fields;
-        State {
-            latch: 0xA001,
-            fields,
-        }
-    }
+// The latch that a frame is started with.
+pub(crate) fn latch(n: u16) -> u16 {
+    if n < 4 { 0 } else { 0xA001 }
 }
 
 pub(crate) fn write(mem: &mut [u16]) {

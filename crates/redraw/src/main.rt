@@ -41,14 +41,13 @@ fn main() {
 fn redraw_frame(n: u16, mem: &[u16], count: report::Count) -> report::Count {
     report::frame(n);
     let settings = frames::settings(n);
-    match start::start(settings, mem) {
+    match start::start(settings, mem, frames::latch(n)) {
         StartAnswer::Refused(r) => {
             report::refused(r);
             count
         }
         StartAnswer::Accepted(s) => {
-            let state = s.state;
-            let first = frames::first_state(n, state);
+            let first = s.state;
             let turns = draw_in_turn(settings, mem, first);
             redraw_rows(settings, mem, first.latch, turns, count)
         }

@@ -55,14 +55,11 @@ startFrom latch σ = do
   checkSettings σ
   mainStart latch σ
 
--- "It is 0 at the start of a frame.", of the latch
-abbrev pub start : Settings → Reading State
-start σ = startFrom 0 σ
-
 -- "a refused start gives no state"; "the row is 0 at the start"
 abbrev pub started : Outcome State → StartAnswer
 started (given n s) = Accepted (record { words = n; state = s })
 started (refused x) = Refused (refusal 0 x)
 
-unfoldable pub startCall : Settings → List ℕ → StartAnswer
-startCall σ m = started (run m (start σ))
+-- 02, of the latch: "A frame starts with the latch that the frame before ended with, the first after reset with 0."
+unfoldable pub startCall : ℕ → Settings → List ℕ → StartAnswer
+startCall latch σ m = started (run m (startFrom latch σ))

@@ -25,19 +25,19 @@ pub enum StartAnswer {
     Refused(Refusal),
 }
 
-// The start of a frame: its first state and the words read, or refusal 2, 6, 7 or 8.
-pub fn start(settings: Settings, mem: &[u16]) -> StartAnswer
-    ensures { λ r. ⌜ r ≡ startCall settings (now (mem .entry)) ⌝ }
+// The start of a frame from a latch: its first state and the words read, or refusal 2, 6, 7 or 8.
+pub fn start(settings: Settings, mem: &[u16], latch: u16) -> StartAnswer
+    ensures { λ r. ⌜ r ≡ startCall latch settings (now (mem .entry)) ⌝ }
 {
     match settings::check_settings(settings) {
         SettingsCheck::Refused(fault) => StartAnswer::Refused(memory::refusal_of(0, fault)),
-        SettingsCheck::Passed => start_main(settings, mem),
+        SettingsCheck::Passed => start_main(settings, mem, latch),
     }
 }
 
 // The rest of a start, once its settings are checked: the main block.
-fn start_main(settings: Settings, mem: &[u16]) -> StartAnswer
-    ensures { λ r. ⌜ r ≡ started (run (now (mem .entry)) (mainStart 0 settings)) ⌝ }
+fn start_main(settings: Settings, mem: &[u16], latch: u16) -> StartAnswer
+    ensures { λ r. ⌜ r ≡ started (run (now (mem .entry)) (mainStart latch settings)) ⌝ }
 {
     let top = memory::pointer_of(settings.linear, settings.top.first, settings.top.second);
     if top.address == 0 {
@@ -45,20 +45,20 @@ fn start_main(settings: Settings, mem: &[u16]) -> StartAnswer
     }
     match blocks::main_block(mem, settings.linear, top) {
         MainRead::Refused(fault) => StartAnswer::Refused(memory::refusal_of(0, fault)),
-        MainRead::Read(main) => start_window(settings, mem, main),
+        MainRead::Read(main) => start_window(settings, mem, latch, main),
     }
 }
 
 // The rest of a start, once its main block is read: the first window.
-fn start_window(settings: Settings, mem: &[u16], main: MainBlock) -> StartAnswer
-    ensures { λ r. ⌜ r ≡ started (runFrom 7 (now (mem .entry)) (windowStart 0 settings main)) ⌝ }
+fn start_window(settings: Settings, mem: &[u16], latch: u16, main: MainBlock) -> StartAnswer
+    ensures { λ r. ⌜ r ≡ started (runFrom 7 (now (mem .entry)) (windowStart latch settings main)) ⌝ }
 {
     let tow = memory::pointer_of(settings.linear, settings.tow.first, settings.tow.second);
     match blocks::first_window(mem, settings.linear, tow) {
         WindowRead::Refused(fault) => StartAnswer::Refused(memory::refusal_of(0, fault)),
         WindowRead::Read { window, words } => {
             let fields = first_fields(settings, main, window);
-            let state = State { latch: 0, fields };
+            let state = State { latch, fields };
             StartAnswer::Accepted(Started {
                 words: 7 + words,
                 state,

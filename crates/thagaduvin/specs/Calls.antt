@@ -21,6 +21,7 @@ use Rattle.numbers.specs.declared.decode.SettingsIn.{SettingsIn}
 use Rattle.numbers.specs.declared.decode.SettingsIn.the-variants as Settings-in
 use Rattle.numbers.specs.declared.decode.StateIn.{StateIn}
 use Rattle.numbers.specs.declared.decode.StateIn.the-variants as State-in
+use Rattle.frame.specs.HandedOn.{latchAfter}
 use Rattle.numbers.specs.Decode.{settingsIn, stateIn}
 use Rattle.numbers.specs.Encode.{stateNumbers, sheetNumbers, oneNumber, rowNumbers, withRefusal}
 
@@ -68,14 +69,14 @@ abbrev pub afterStart : List ℕ → List ℕ → StartAnswer → Stated
 afterStart state answer (Start.Accepted s) = stated 0 (stateNumbers (s .state)) (oneNumber (s .words))
 afterStart state answer (Start.Refused r) = stated (r .number) state (withRefusal r answer)
 
-abbrev pub startFrom : List ℕ → List ℕ → List ℕ → SettingsIn → Stated
-startFrom m state answer (Settings-in.Fit σ) = afterStart state answer (startCall σ m)
-startFrom m state answer Settings-in.Unfit = stated 255 state answer
+abbrev pub startFrom : List ℕ → ℕ → List ℕ → List ℕ → SettingsIn → Stated
+startFrom m latch state answer (Settings-in.Fit σ) = afterStart state answer (startCall latch σ m)
+startFrom m latch state answer Settings-in.Unfit = stated 255 state answer
 
-unfoldable pub hostStart : List ℕ → List ℕ → List ℕ → List ℕ → Stated
-hostStart settings m state answer =
+unfoldable pub hostStart : List ℕ → List ℕ → ℕ → List ℕ → List ℕ → Stated
+hostStart settings m latch state answer =
     if eqb (length state) 19 && eqb (length answer) 3
-    then startFrom m state answer (settingsIn settings)
+    then startFrom m latch state answer (settingsIn settings)
     else stated 255 state answer
 
 -- a row; the row buffer is document 01's, of any length
@@ -97,3 +98,11 @@ rowWith m state cells answer Settings-in.Unfit = drawn 255 state cells answer
 unfoldable pub hostRow : List ℕ → List ℕ → List ℕ → List ℕ → List ℕ → Drawn
 hostRow settings m state cells answer =
     if eqb (length answer) 7 then rowWith m state cells answer (settingsIn settings) else drawn 255 state cells answer
+
+-- the latch that a frame hands on
+abbrev pub latchFrom : ℕ → List ℕ → StateIn → Answered
+latchFrom latch answer (State-in.Fit s) = answered 0 (oneNumber (latchAfter latch s))
+latchFrom latch answer State-in.Unfit = answered 255 answer
+
+unfoldable pub hostLatch : ℕ → List ℕ → List ℕ → Answered
+hostLatch latch state answer = if eqb (length answer) 3 then latchFrom latch answer (stateIn state) else answered 255 answer

@@ -15,7 +15,7 @@ ghost use lib.ListN.{length};
 ghost use Rattle.settings.specs.Sheet.{sheetCall};
 ghost use Rattle.start.specs.Start.{startCall};
 ghost use Rattle.row.specs.Row.{rowCall};
-ghost use Rattle.thagaduvin.specs.Calls.{answered, afterSheet, hostSheet, stated, afterStart, hostStart, drawn, afterRow, hostRow};
+ghost use Rattle.thagaduvin.specs.Calls.{answered, afterSheet, hostSheet, stated, afterStart, hostStart, drawn, afterRow, hostRow, hostLatch};
 
 mod effects; // the calls on effects of rows
 
@@ -33,15 +33,16 @@ pub extern "C" fn thagaduvin_sheet(settings: &[u32], answer: &mut [u32]) -> u8
     }
 }
 
-// A frame's first state, in `state`, and the words read.
+// A frame's first state from a latch, in `state`, and the words read.
 #[no_mangle]
 pub extern "C" fn thagaduvin_start(
     settings: &[u32],
     memory: &[u16],
+    latch: u16,
     state: &mut [u32],
     answer: &mut [u32],
 ) -> u8
-    ensures { λ r. ⌜ stated r (now (state .exit)) (now (answer .exit)) ≡ hostStart (now (settings .entry)) (now (memory .entry)) (now (state .entry)) (now (answer .entry)) ⌝ }
+    ensures { λ r. ⌜ stated r (now (state .exit)) (now (answer .exit)) ≡ hostStart (now (settings .entry)) (now (memory .entry)) latch (now (state .entry)) (now (answer .entry)) ⌝ }
 {
     if state.len() != 19 {
         return 255;
@@ -50,7 +51,7 @@ pub extern "C" fn thagaduvin_start(
         return 255;
     }
     match decode::settings_in(settings) {
-        SettingsIn::Fit(s) => start(s, memory, state, answer),
+        SettingsIn::Fit(s) => start(s, memory, latch, state, answer),
         SettingsIn::Unfit => 255,
     }
 }
@@ -78,6 +79,23 @@ pub extern "C" fn thagaduvin_row(
     }
 }
 
+// The latch that a frame hands on, in `answer`, from the latch that it was started with and the state that it ended with.
+#[no_mangle]
+pub extern "C" fn thagaduvin_latch(latch: u16, state: &[u32], answer: &mut [u32]) -> u8
+    ensures { λ r. ⌜ answered r (now (answer .exit)) ≡ hostLatch latch (now (state .entry)) (now (answer .entry)) ⌝ }
+{
+    if answer.len() != 3 {
+        return 255;
+    }
+    match decode::state_in(state) {
+        StateIn::Fit(s) => {
+            encode::write_number(frame::handed_on(latch, s) as u32, answer);
+            0
+        }
+        StateIn::Unfit => 255,
+    }
+}
+
 fn sheet(settings: Settings, answer: &mut [u32]) -> u8
     requires { ⌜ length (now answer) ≡ 13 ⌝ }
     ensures { λ r. ⌜ answered r (now (answer .exit)) ≡ afterSheet (now (answer .entry)) (sheetCall settings) ⌝ }
@@ -91,11 +109,17 @@ fn sheet(settings: Settings, answer: &mut [u32]) -> u8
     }
 }
 
-fn start(settings: Settings, memory: &[u16], state: &mut [u32], answer: &mut [u32]) -> u8
+fn start(
+    settings: Settings,
+    memory: &[u16],
+    latch: u16,
+    state: &mut [u32],
+    answer: &mut [u32],
+) -> u8
     requires { ⌜ (length (now state) ≡ 19) × (length (now answer) ≡ 3) ⌝ }
-    ensures { λ r. ⌜ stated r (now (state .exit)) (now (answer .exit)) ≡ afterStart (now (state .entry)) (now (answer .entry)) (startCall settings (now (memory .entry))) ⌝ }
+    ensures { λ r. ⌜ stated r (now (state .exit)) (now (answer .exit)) ≡ afterStart (now (state .entry)) (now (answer .entry)) (startCall latch settings (now (memory .entry))) ⌝ }
 {
-    match start::start(settings, memory) {
+    match start::start(settings, memory, latch) {
         StartAnswer::Accepted(s) => {
             let first = s.state;
             encode::write_state(first, state);

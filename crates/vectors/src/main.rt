@@ -146,7 +146,7 @@ fn draw_script(bytes: &[u8], want: &[u8]) -> Place {
 
 // A frame: its start, then its rows.
 fn draw(settings: Settings, mem: &[u16], want: &[u8]) -> Place {
-    match frame::begin(settings, mem) {
+    match frame::begin(settings, mem, 0) {
         BeginAnswer::Refused(refusal) => with_refusal(beginning(), refusal, want),
         BeginAnswer::Begun(progress) => draw_rows(settings, mem, progress, want),
     }

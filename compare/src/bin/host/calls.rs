@@ -10,7 +10,7 @@ pub struct Difference(pub String);
 pub type Checked<T> = Result<T, Difference>;
 
 /// The lines of the table.
-const LINES: [&str; 9] = [
+const LINES: [&str; 10] = [
     "sheet",
     "start",
     "row",
@@ -19,6 +19,7 @@ const LINES: [&str; 9] = [
     "its part, ignore set",
     "join",
     "apply",
+    "latch",
     "all",
 ];
 const STATUSES: usize = 15;
@@ -29,6 +30,51 @@ pub struct Tally {
     counts: [[u64; STATUSES]; LINES.len()],
     /// Effects whose two parts differ.
     parted: u64,
+    /// Accepted starts from a latch that is not 0.
+    latched: u64,
+    pub in_turn: InTurn,
+}
+
+/// Counts of frames drawn in turn.
+#[derive(Default)]
+pub struct InTurn {
+    frames: u64,
+    /// Started from a latch that is not 0.
+    latched: u64,
+    /// That handed on another latch than they were started with.
+    changed: u64,
+    pub refused_starts: u64,
+    refused_rows: u64,
+    /// A row refused after rows that changed the latch.
+    dropped: u64,
+    pub left: u64,
+}
+
+impl InTurn {
+    pub fn count(&mut self, latch: u16, handed_on: u16) {
+        self.frames += 1;
+        self.latched += u64::from(latch != 0);
+        self.changed += u64::from(handed_on != latch);
+    }
+
+    pub fn refused_row(&mut self, latch: u16, reached: u16) {
+        self.refused_rows += 1;
+        self.dropped += u64::from(reached != latch);
+    }
+
+    fn print(&self) {
+        println!(
+            "{} frames in turn: {} from a latch not 0, {} handed on another one; {} refused at the start, {} \
+             at a row, {} of these after rows that changed the latch; {} left",
+            self.frames,
+            self.latched,
+            self.changed,
+            self.refused_starts,
+            self.refused_rows,
+            self.dropped,
+            self.left
+        );
+    }
 }
 
 impl Tally {
@@ -60,9 +106,10 @@ impl Tally {
         }
         let calls: u64 = self.counts[LINES.len() - 1].iter().sum();
         println!(
-            "{calls} calls; {} effects with two parts that differ",
-            self.parted
+            "{calls} calls; {} effects with two parts that differ; {} accepted starts from a latch not 0",
+            self.parted, self.latched
         );
+        self.in_turn.print();
     }
 }
 
@@ -115,18 +162,21 @@ impl Calls {
         &mut self,
         settings: &[u32],
         memory: &[u16],
+        latch: u16,
         states: usize,
         answers: usize,
     ) -> Checked<u8> {
+        let given = ("start", settings, memory.len(), latch);
         let (state, answer) = (&mut self.state, &mut self.answer);
         state.mark(states);
         answer.mark(answers);
         let statuses = [
-            host::start(settings, memory, state.ours(), answer.ours()),
-            library::start(settings, memory, state.theirs(), answer.theirs()),
+            host::start(settings, memory, latch, state.ours(), answer.ours()),
+            library::start(settings, memory, latch, state.theirs(), answer.theirs()),
         ];
         self.tally.count_call(1, statuses[0]);
-        compare(statuses, &[state, answer], &("start", settings))
+        self.tally.latched += u64::from(statuses[0] == 0 && latch != 0);
+        compare(statuses, &[state, answer], &given)
     }
 
     pub fn row(
@@ -137,7 +187,7 @@ impl Calls {
         cells: usize,
         answers: usize,
     ) -> Checked<u8> {
-        let given = ("row", settings, from, cells, answers);
+        let given = ("row", settings, memory.len(), from, cells, answers);
         self.cells.mark(cells);
         let (state, cells, answer) = (&mut self.state, &mut self.cells, &mut self.answer);
         state.put(from);
@@ -197,5 +247,16 @@ impl Calls {
         ];
         self.tally.count_call(7, statuses[0]);
         compare(statuses, &[answer], &("apply", effect, latch))
+    }
+
+    pub fn latch(&mut self, latch: u16, state: &[u32], answers: usize) -> Checked<u8> {
+        let answer = &mut self.answer;
+        answer.mark(answers);
+        let statuses = [
+            host::latch(latch, state, answer.ours()),
+            library::latch(latch, state, answer.theirs()),
+        ];
+        self.tally.count_call(8, statuses[0]);
+        compare(statuses, &[answer], &("latch", latch, state))
     }
 }

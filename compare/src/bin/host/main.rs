@@ -6,14 +6,15 @@
 
 mod calls;
 mod frame;
+mod in_turn;
 mod lent;
 mod odd;
 
 use calls::{Calls, Checked, Difference};
 use compare::generate::Rng;
 use compare::host::{
-    APPLY_ANSWER, EFFECT, EFFECT_MOST, ROW_ANSWER, SETTINGS_MOST, SHEET_ANSWER, START_ANSWER,
-    STATE, STATE_MOST, UNFIT,
+    APPLY_ANSWER, EFFECT, EFFECT_MOST, LATCH_ANSWER, ROW_ANSWER, SETTINGS_MOST, SHEET_ANSWER,
+    START_ANSWER, STATE, STATE_MOST, UNFIT,
 };
 use compare::rules::CELLS;
 use frame::Frame;
@@ -155,7 +156,7 @@ fn row_and_effect(calls: &mut Calls, frame: &Frame, from: &[u32; STATE]) -> Chec
     must(same, "an effect is that of its row", from)
 }
 
-/// Rows and effects of states that no start gives.
+/// Rows and effects of states that no start gives, and the latches that they would hand on.
 fn odd_states(
     calls: &mut Calls,
     rng: &mut Rng,
@@ -166,6 +167,11 @@ fn odd_states(
         let real = rng.pick(real);
         let state = odd::state(rng, &real, frame.memory().len());
         row_and_effect(calls, frame, &state)?;
+        for lines_left in [state[2], 0] {
+            let mut state = state;
+            state[2] = lines_left;
+            calls.latch(rng.word(), &state, LATCH_ANSWER)?;
+        }
     }
     Ok(())
 }
@@ -180,7 +186,8 @@ fn odd_settings(
     for _ in 0..4 {
         let settings = odd::settings(rng, &frame.settings);
         calls.sheet(&settings, SHEET_ANSWER)?;
-        calls.start(&settings, frame.memory(), STATE, START_ANSWER)?;
+        let latch = in_turn::latch(rng);
+        calls.start(&settings, frame.memory(), latch, STATE, START_ANSWER)?;
         let state = rng.pick(real);
         calls.row(&settings, frame.memory(), &state, CELLS, ROW_ANSWER)?;
         calls.effect(&settings, frame.memory(), &state, EFFECT)?;
@@ -210,12 +217,24 @@ fn unfit(calls: &mut Calls, rng: &mut Rng, frame: &Frame, real: &[u32; STATE]) -
     let bad_effect = odd::unfit(rng, &effect, &EFFECT_MOST);
     let cells = rng.pick(&[CELLS, CELLS, 0, 133]);
     let latch = rng.word();
-    let status = match rng.below(15) {
+    let status = match rng.below(17) {
         0 => calls.sheet(&bad_settings, SHEET_ANSWER),
         1 => calls.sheet(settings, odd::count(rng, SHEET_ANSWER)),
-        2 => calls.start(&bad_settings, memory, STATE, START_ANSWER),
-        3 => calls.start(settings, memory, odd::count(rng, STATE), START_ANSWER),
-        4 => calls.start(settings, memory, STATE, odd::count(rng, START_ANSWER)),
+        2 => calls.start(&bad_settings, memory, latch, STATE, START_ANSWER),
+        3 => calls.start(
+            settings,
+            memory,
+            latch,
+            odd::count(rng, STATE),
+            START_ANSWER,
+        ),
+        4 => calls.start(
+            settings,
+            memory,
+            latch,
+            STATE,
+            odd::count(rng, START_ANSWER),
+        ),
         5 => calls.row(&bad_settings, memory, real, cells, ROW_ANSWER),
         6 => calls.row(settings, memory, &bad_state, cells, ROW_ANSWER),
         7 => calls.row(settings, memory, real, cells, odd::count(rng, ROW_ANSWER)),
@@ -225,7 +244,9 @@ fn unfit(calls: &mut Calls, rng: &mut Rng, frame: &Frame, real: &[u32; STATE]) -
         11 => calls.join(&bad_effect, &effect, EFFECT),
         12 => calls.join(&effect, &bad_effect, EFFECT),
         13 => calls.apply(&bad_effect, latch, APPLY_ANSWER),
-        _ => calls.apply(&effect, latch, odd::count(rng, APPLY_ANSWER)),
+        14 => calls.apply(&effect, latch, odd::count(rng, APPLY_ANSWER)),
+        15 => calls.latch(latch, &bad_state, LATCH_ANSWER),
+        _ => calls.latch(latch, real, odd::count(rng, LATCH_ANSWER)),
     }?;
     let given = (bad_settings, bad_state, bad_effect);
     must(
@@ -238,7 +259,8 @@ fn unfit(calls: &mut Calls, rng: &mut Rng, frame: &Frame, real: &[u32; STATE]) -
 /// All calls of a frame.
 fn compare(calls: &mut Calls, rng: &mut Rng, frame: &Frame) -> Checked<()> {
     calls.sheet(&frame.settings, SHEET_ANSWER)?;
-    let status = calls.start(&frame.settings, frame.memory(), STATE, START_ANSWER)?;
+    let latch = in_turn::latch(rng);
+    let status = calls.start(&frame.settings, frame.memory(), latch, STATE, START_ANSWER)?;
     let mut real = Vec::new();
     if status == 0 {
         let first = calls.state.left();
@@ -250,6 +272,7 @@ fn compare(calls: &mut Calls, rng: &mut Rng, frame: &Frame) -> Checked<()> {
     if real.is_empty() {
         real.push([0; STATE]);
     }
+    in_turn::frames(calls, rng, frame)?;
     odd_settings(calls, rng, frame, &real)?;
     odd_states(calls, rng, frame, &real)?;
     odd_effects(calls, rng)?;

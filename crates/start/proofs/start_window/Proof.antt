@@ -10,9 +10,9 @@ use borrow.Author.Needs.{needs}
 use Rattle.start.proofs.start_window.Statement.{statement}
 use Rattle.start.proofs.start_window.Tie as tie
 
-add-t13 : tie.Need-add-t13
+add-t14 : tie.Need-add-t14
 unfolding firstWindow
-add-t13 c =
+add-t14 c =
     omega (arith, reads-given 0 _ (λ i. c .before .before .before .before .before .before .shared-slice-known .given i .fits) (window-reads _ 0 _) (sym (rw (c .before .before .window .given .1) at (c .before .before .before .before .first-window .ensures))) .0)
 
 returns : tie.Need-returns
@@ -35,6 +35,6 @@ start-window-spec =
     (λ c κs. search needs)
     (λ c. search needs)
     (λ c κs. search needs)
-    add-t13
+    add-t14
     returns
     returns-2)

@@ -1,0 +1,118 @@
+//! Frames drawn in turn, each from the latch that the one before handed on.
+
+use crate::calls::{Calls, Checked};
+use crate::frame::Frame;
+use crate::{must, odd};
+use compare::generate::Rng;
+use compare::host::{LATCH_ANSWER, ROW_ANSWER, SETTINGS, SHEET_ANSWER, START_ANSWER, STATE, UNFIT};
+use compare::rules::CELLS;
+
+/// Frames drawn in turn of one random frame's settings and memory.
+const FRAMES: usize = 4;
+
+/// How the rows of a frame went.
+enum End {
+    /// To the last line.
+    Drawn,
+    Refused,
+    /// The console left the frame before its last line.
+    Left,
+}
+
+/// A latch to start from: 0 as after reset, or any.
+pub fn latch(rng: &mut Rng) -> u16 {
+    match rng.below(4) {
+        0 => 0,
+        1 => 0x8000 | rng.word(),
+        _ => rng.word(),
+    }
+}
+
+/// Row calls from a frame's first state on, until they have drawn all lines, or one is refused, or
+/// the frame is left. A call refused 1 is no row, and does not end the frame. Gives the last state.
+fn rows(
+    calls: &mut Calls,
+    rng: &mut Rng,
+    settings: &[u32; SETTINGS],
+    memory: &[u16],
+    lines: u32,
+) -> Checked<(End, [u32; STATE])> {
+    let mut state: [u32; STATE] = calls.state.left();
+    let mut drawn = 0;
+    while drawn < lines {
+        if rng.once_in(200) {
+            return Ok((End::Left, state));
+        }
+        if rng.once_in(30) {
+            let status = calls.row(settings, memory, &state, CELLS - 1, ROW_ANSWER)?;
+            must(status == 1, "a row of 131 cells is refused 1", &state)?;
+        }
+        let status = calls.row(settings, memory, &state, CELLS, ROW_ANSWER)?;
+        state = calls.state.left();
+        if status != 0 {
+            return Ok((End::Refused, state));
+        }
+        let answer: [u32; ROW_ANSWER] = calls.answer.left();
+        drawn += answer[2];
+    }
+    Ok((End::Drawn, state))
+}
+
+/// A frame from a latch. Gives the latch that it hands on: of its last row where it was drawn to its
+/// last line, else the one that it was started with. The call says the same of its last state.
+fn frame(
+    calls: &mut Calls,
+    rng: &mut Rng,
+    settings: &[u32; SETTINGS],
+    memory: &[u16],
+    latch: u16,
+) -> Checked<u16> {
+    calls.sheet(settings, SHEET_ANSWER)?;
+    let sheet: [u32; SHEET_ANSWER] = calls.answer.left();
+    let status = calls.start(settings, memory, latch, STATE, START_ANSWER)?;
+    if status == UNFIT {
+        return Ok(latch);
+    }
+    if status != 0 {
+        let all = &mut calls.tally.in_turn;
+        all.count(latch, latch);
+        all.refused_starts += 1;
+        return Ok(latch);
+    }
+    let (end, state) = rows(calls, rng, settings, memory, sheet[7])?;
+    let reached = state[0] as u16;
+    let handed_on = match end {
+        End::Drawn => reached,
+        End::Refused | End::Left => latch,
+    };
+    calls.latch(latch, &state, LATCH_ANSWER)?;
+    let answer: [u32; LATCH_ANSWER] = calls.answer.left();
+    let same = answer == [0, 0, handed_on.into()];
+    must(same, "a frame hands on its latch", &(latch, state))?;
+    let all = &mut calls.tally.in_turn;
+    all.count(latch, handed_on);
+    match end {
+        End::Drawn => {}
+        End::Refused => all.refused_row(latch, reached),
+        End::Left => all.left += 1,
+    }
+    Ok(handed_on)
+}
+
+/// Frames in turn, from a latch: of the settings and memory of a frame, and seldom of such settings
+/// changed, or of a part of that memory, so that there are refused ones among them.
+pub fn frames(calls: &mut Calls, rng: &mut Rng, of: &Frame) -> Checked<()> {
+    let mut handed_on = latch(rng);
+    for _ in 0..FRAMES {
+        let mut settings = of.settings;
+        if rng.once_in(6) {
+            settings = odd::settings(rng, &settings);
+        }
+        let mut memory = of.memory();
+        if rng.once_in(6) {
+            memory = &memory[..rng.below(memory.len() + 1)];
+        }
+        handed_on = frame(calls, rng, &settings, memory, handed_on)?;
+    }
+    Ok(())
+}
