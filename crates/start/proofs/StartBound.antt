@@ -9,8 +9,8 @@ use Rattle.memory.proofs.ReadBounds.{Reads, dones, bind, check-reads, words-rea
 use Rattle.settings.specs.declared.Settings.{Settings}
 use Rattle.settings.specs.Good.{good, checkSettings}
 use Rattle.blocks.specs.Main.{mainBlockAt}
-use Rattle.blocks.specs.Window.{firstWindow}
-use Rattle.blocks.proofs.BlockBounds.{window-reads}
+use Rattle.windows.specs.Window.{firstWindow}
+use Rattle.windows.proofs.WindowBounds.{window-reads}
 use Rattle.start.specs.Start.{registered, firstFields, windowStart, startFrom}
 
 main-reads : (linear : Bool) (p : Pointer) → Reads (λ _. Unit {0}) 7 (mainBlockAt linear p)

@@ -1,0 +1,43 @@
+-- The block and its redefinition are read one after the other, as the rule says; 83 words at most, so the sum fits.
+use mathlib.Core.Path.{sym}
+use native.Mathlib.Omega.{arith}
+use Rattle.background.proofs.BackgroundLaws.{block-refused, format-refused, block-read, block-words}
+use borrow.Author.Needs.{needs}
+use Rattle.background.proofs.background_block.Statement.{statement}
+use Rattle.background.proofs.background_block.Tie as tie
+
+add-t19 : tie.Need-add-t19
+add-t19 c =
+    let t = sym (rw (c .before .before .before .format .given .1) at (c .before .before .before .before .before .redefinition2 .ensures)) in
+    let b = sym (rw (c .before .before .before .before .before .before .before .before .b .given .1) at (c .before .before .before .before .before .before .before .before .before .before .row-block .ensures)) in
+    let a = c .before .before .before .before .before .before .before .before .before .before .before .before .before .args in
+    omega (arith, block-words _ (a .linear) _ _ b t (λ i. c .before .before .before .before .before .before .before .before .before .before .before .before .shared-slice-known .given i .fits))
+
+returns : tie.Need-returns
+returns c =
+    let t = sym (rw (c .before .before .before .format .given .1) at (c .before .before .before .before .before .redefinition2 .ensures)) in
+    let b = sym (rw (c .before .before .before .before .before .before .before .before .b .given .1) at (c .before .before .before .before .before .before .before .before .before .before .row-block .ensures)) in
+    sym (block-read _ _ _ _ b t)
+
+returns-2 : tie.Need-returns-2
+returns-2 c =
+    let b = sym (rw (c .before .before .before .before .before .before .b .given .1) at (c .before .before .before .before .before .before .before .before .row-block .ensures)) in
+    sym (format-refused _ _ _ _ b (sym (rw (c .before .fault .given .1) at (c .before .before .before .redefinition2 .ensures))))
+
+returns-3 : tie.Need-returns-3
+returns-3 c = sym (block-refused _ _ _ _ (sym (rw (c .before .fault2 .given .1) at (c .before .before .before .row-block .ensures))))
+
+pub background-block-spec : {M : Type 1} → statement M
+background-block-spec =
+    tie.close
+    (tie.spec
+    (λ c κs. search needs)
+    (λ c. search needs)
+    (λ c κs. search needs)
+    (λ c. search needs)
+    add-t19
+    (λ c. search needs)
+    (λ c. search needs)
+    returns
+    returns-2
+    returns-3)
