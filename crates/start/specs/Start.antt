@@ -6,6 +6,7 @@ use Rattle.settings.specs.declared.Settings.{Settings}
 use Rattle.settings.specs.Good.{checkSettings}
 use Rattle.settings.specs.Timing.{linesForRows}
 use Rattle.blocks.specs.declared.MainBlock.{MainBlock}
+use Rattle.blocks.specs.declared.RowFormat.{RowFormat}
 use Rattle.blocks.specs.declared.WindowInHand.{WindowInHand}
 use Rattle.blocks.specs.Window.{firstWindow}
 use Rattle.state.specs.declared.Fields.{Fields}
@@ -16,13 +17,16 @@ use Rattle.state.specs.State.{stateOf}
 use Rattle.start.specs.Top.{registered, topBlock}
 
 -- "A frame starts with row attributes 0, M6's lines, CURS 0, CURE 31."
+abbrev pub firstFormat : ℕ → RowFormat
+firstFormat lines = record { lines = lines; attributes = 0; curs = 0; cure = 31 }
+
 unfoldable pub firstFields : Settings → MainBlock → WindowInHand → Fields
 firstFields σ m w = record {
   row = 0;
   left = linesForRows σ;
   cursor = m .cursor;
   fill = m .fill;
-  format = record { lines = m .lines; attributes = 0; curs = 0; cure = 31 };
+  format = firstFormat (m .lines);
   next = m .rows;
   window = w;
 }

@@ -16,7 +16,7 @@ ghost use Rattle.memory.specs.Word.{bit};
 ghost use Rattle.memory.specs.Reading.{run, runFrom};
 ghost use Rattle.blocks.specs.Answers.{mainRead};
 ghost use Rattle.start.specs.Top.{topBlock};
-ghost use Rattle.start.specs.Start.{firstFields, windowStart, mainStart, started, startCall};
+ghost use Rattle.start.specs.Start.{firstFormat, firstFields, windowStart, mainStart, started, startCall};
 
 // The answer of an accepted start: the words read, and the first state.
 pub struct Started {
@@ -57,6 +57,18 @@ pub fn top_block(mem: &[u16], linear: bool, top: PointerWords) -> MainRead
                 MainRead::Read(main)
             }
         }
+    }
+}
+
+// The format that a frame starts with, from its main block's scan lines.
+pub fn first_format(lines: u8) -> RowFormat
+    ensures { λ r. ⌜ r ≡ firstFormat lines ⌝ }
+{
+    RowFormat {
+        lines,
+        attributes: 0,
+        curs: 0,
+        cure: 31,
     }
 }
 
@@ -101,12 +113,7 @@ fn first_fields(settings: Settings, main: MainBlock, window: WindowInHand) -> Fi
 {
     let cursor = main.cursor;
     let fill = main.fill;
-    let format = RowFormat {
-        lines: main.lines,
-        attributes: 0,
-        curs: 0,
-        cure: 31,
-    };
+    let format = first_format(main.lines);
     let next = main.rows;
     Fields {
         row: 0,

@@ -1,0 +1,2 @@
+mod SignedLaws
+mod ShiftLaws
