@@ -66,13 +66,25 @@ from-last-small up last h =
     let k = in-range last h in
     if-cases Small (eqb (last .direction) _) (λ _. record { lines = k .0; phase = k .1 }) (λ _. record { lines = omega arith; phase = omega arith })
 
-pub rate-lines : (n : ℕ) → n < 16 → (rate n .lines ≤ 8) × (1 ≤ rate n .frames) × (rate n .frames ≤ 8)
+pub record RateBounds (r : Rate) : Type 0 where
+  pub some-lines : 1 ≤ r .lines
+  pub few-lines : r .lines ≤ 8
+  pub some-frames : 1 ≤ r .frames
+  pub few-frames : r .frames ≤ 8
+
+pub rate-bounds : (n : ℕ) → n < 16 → RateBounds (rate n)
 unfolding rate
-rate-lines n h =
-    if-cases (λ (r : Rate). (r .lines ≤ 8) × (1 ≤ r .frames) × (r .frames ≤ 8)) (ltb n 8) (λ t. omega (arith, ltb-true n 8 t)) (λ t. omega (arith, ltb-false n 8 t))
+rate-bounds n h =
+    if-cases RateBounds (ltb n 8)
+    (λ t.
+    let k : n < 8 = ltb-true n 8 t in
+    record { some-lines = omega arith; few-lines = omega arith; some-frames = omega arith; few-frames = omega arith })
+    (λ t.
+    let k : 8 ≤ n = ltb-false n 8 t in
+    record { some-lines = omega arith; few-lines = omega arith; some-frames = omega arith; few-frames = omega arith })
 
 pub m4-lines : (m4 : ℕ) → rate (m4 / 256 % 16) .lines ≤ 8
-m4-lines m4 = rate-lines (m4 / 256 % 16) (omega arith) .0
+m4-lines m4 = rate-bounds (m4 / 256 % 16) (omega arith) .few-lines
 
 pub moved-lines : (r : Rate) (g : Offset) → r .lines ≤ 8 → g .lines ≤ 31 → moved r g .lines ≤ 39
 unfolding moved
