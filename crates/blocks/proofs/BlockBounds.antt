@@ -1,4 +1,4 @@
--- How many words the blocks are read with, and what holds of them: at most 15 segments, lengths of a byte, windows in order.
+-- How many words the blocks are read with, and what holds of them: at most 15 segments, lengths of a byte.
 use mathlib.Core.Path.{_≡_}
 use mathlib.Core.Bool.{Bool, true, false, _&&_}
 use mathlib.Core.List.{List, [], _∷_}
@@ -15,11 +15,7 @@ use Rattle.memory.specs.Address.{null, further}
 use Rattle.memory.proofs.ReadBounds.{Words, Reads, dones, weaken, bind, check-reads, if-reads, both, words-read}
 use Rattle.blocks.specs.declared.Segment.{Segment}
 use Rattle.blocks.specs.declared.RowFormat.{RowFormat}
-use Rattle.blocks.specs.declared.WindowBlock.{WindowBlock}
-use Rattle.blocks.specs.declared.WindowInHand.{WindowInHand}
-use Rattle.blocks.specs.declared.WindowInHand.the-variants.{Absent, Present}
 use Rattle.blocks.specs.RowBlock.{formatOf, segmentOf, segmentsOf, restOfBlock, blockAt, rowBlockAt, windowRowAt, redefined}
-use Rattle.blocks.specs.Window.{windowOf, inOrder, windowAt, dueWindow}
 
 -- ---- row blocks ----
 -- segments whose lengths fit a byte; at most n of them
@@ -75,33 +71,3 @@ pub redefined-reads : (linear : Bool) (p : Pointer) (format : RowFormat)
 unfolding redefined formatOf
 redefined-reads linear p format =
     if-reads (null p) (λ _. dones (λ h. h)) λ _. bind {n = 3} {k = 0} (omega arith) (words-read linear 3 p) λ _ _. dones (λ _. omega arith)
-
--- ---- windows ----
-abbrev pub Ordered : WindowBlock → Type 0
-Ordered b = (b .top ≤ b .bottom) × (b .left ≤ b .right) × (b .right ≤ 131)
-
-abbrev pub Placed : WindowInHand → Type 0
-Placed Absent = Unit
-Placed (Present w) = Ordered (w .block)
-
-pub in-order : (b : WindowBlock) → inOrder b ≡ true → Ordered b
-unfolding inOrder
-in-order b h =
-    let k = both (leb (b .top) (b .bottom) && leb (b .left) (b .right)) (leb (b .right) 131) h in
-    let i = both (leb (b .top) (b .bottom)) (leb (b .left) (b .right)) (k .0) in
-    omega (arith, leb-true (b .top) (b .bottom) (i .0), leb-true (b .left) (b .right) (i .1), leb-true (b .right) 131 (k .1))
-
-pub window-reads : (linear : Bool) (least : ℕ) (p : Pointer) → Reads Placed 6 (windowAt linear least p)
-unfolding windowAt
-window-reads linear least p =
-    if-reads (null p) (λ _. dones tt) λ _.
-    bind {n = 6} {k = 0} (omega arith) (words-read linear 6 p) λ b _.
-    let w = windowOf linear b .block in
-    bind {n = 0} {k = 0} (omega arith) (check-reads 8 (inOrder w && leb least (w .top))) λ _ h.
-    dones (in-order w (both (inOrder w) (leb least (w .top)) h .0))
-
-pub due-reads : (linear : Bool) (row : ℕ) (w : WindowInHand) → Placed w → Reads Placed 6 (dueWindow linear row w)
-unfolding dueWindow
-due-reads linear row Absent h = dones tt
-due-reads linear row (Present w) h =
-    if-reads (ltb (w .block .bottom) row) (λ _. window-reads linear (w .block .bottom + 1) (w .block .link)) (λ _. dones h)

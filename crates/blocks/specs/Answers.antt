@@ -5,7 +5,6 @@ use mathlib.Core.List.{List}
 use Rattle.memory.specs.Reading.{Outcome, given, refused}
 use Rattle.blocks.specs.declared.MainBlock.{MainBlock}
 use Rattle.blocks.specs.declared.RowFormat.{RowFormat}
-use Rattle.blocks.specs.declared.WindowInHand.{WindowInHand}
 use Rattle.blocks.specs.declared.MainRead.{MainRead}
 use Rattle.blocks.specs.declared.MainRead.the-variants as Main
 use Rattle.blocks.specs.declared.BlockHead.{BlockHead}
@@ -13,8 +12,6 @@ use Rattle.blocks.specs.declared.BlockRead.{BlockRead}
 use Rattle.blocks.specs.declared.BlockRead.the-variants as Block
 use Rattle.blocks.specs.declared.FormatRead.{FormatRead}
 use Rattle.blocks.specs.declared.FormatRead.the-variants as Format
-use Rattle.blocks.specs.declared.WindowRead.{WindowRead}
-use Rattle.blocks.specs.declared.WindowRead.the-variants as Window
 use Rattle.blocks.specs.RowBlock.{RowBlock, segmentsOf}
 
 -- the answer of `main_block` as an outcome
@@ -35,8 +32,3 @@ blockRead linear (Block.Refused x) ws = refused x
 abbrev pub formatRead : FormatRead → Outcome RowFormat
 formatRead (Format.Read t n) = given n t
 formatRead (Format.Refused x) = refused x
-
--- the answer of a window's reader as an outcome
-abbrev pub windowRead : WindowRead → Outcome WindowInHand
-windowRead (Window.Read w n) = given n w
-windowRead (Window.Refused x) = refused x

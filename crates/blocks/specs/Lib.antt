@@ -1,4 +1,3 @@
 pub mod Main
 pub mod RowBlock
-pub mod Window
 pub mod Answers

@@ -18,15 +18,15 @@ use Rattle.plan.specs.Plan.{Plan}
 use Rattle.row.specs.Row.{Row, row, answered, rowCall}
 use Rattle.cells.proofs.Alike.{kept, became, alike}
 use Rattle.row.proofs.RowAlike.{EndAlike, ends, row-alike, Planned, accepts, refusing, row-planned}
-use Rattle.effect.specs.declared.Effect.{Effect}
-use Rattle.effect.specs.declared.Applied.{Applied}
-use Rattle.effect.specs.declared.Applied.the-variants.{Latch, Refused as Refuses}
+use Rattle.joining.specs.declared.Effect.{Effect}
+use Rattle.joining.specs.declared.Applied.{Applied}
+use Rattle.joining.specs.declared.Applied.the-variants.{Latch, Refused as Refuses}
 use Rattle.effect.specs.declared.NextFields.{NextFields}
 use Rattle.effect.specs.declared.NextFields.the-variants.{Reached, Unreached}
-use Rattle.effect.specs.Join.{empty, partFor, join, applyPart, apply}
+use Rattle.joining.specs.Join.{empty, partFor, join, applyPart, apply}
 use Rattle.effect.specs.Effect.{partOf, nextOf, latchWith, outcomeFor, effectCall}
 use Rattle.effect.specs.Demand.{Call, isRow, stateAfter, fieldsAfter, onBuffer, inTurn, rowAlone, drawnAlone, Demand3}
-use Rattle.effect.proofs.Joining.{join-assoc, empty-join, join-empty, apply-join, apply-empty}
+use Rattle.joining.proofs.Joining.{join-assoc, empty-join, join-empty, apply-join, apply-empty}
 
 -- ---- a row from any latch ----
 

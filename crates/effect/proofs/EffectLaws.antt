@@ -23,8 +23,8 @@ use Rattle.row.proofs.RowLaws.{planned-refused, planned-drawn}
 use Rattle.latch.specs.declared.LatchEffect.{LatchEffect}
 use Rattle.latch.specs.declared.LatchEffect.the-variants.{Kept, Latched, Unclear}
 use Rattle.latch.specs.Latch.{ending, AsDrawn}
-use Rattle.effect.specs.declared.Part.{Part}
-use Rattle.effect.specs.declared.Part.the-variants.{Keep, Set}
+use Rattle.joining.specs.declared.Part.{Part}
+use Rattle.joining.specs.declared.Part.the-variants.{Keep, Set}
 use Rattle.effect.specs.declared.NextFields.{NextFields}
 use Rattle.effect.specs.declared.NextFields.the-variants.{Reached}
 use Rattle.effect.specs.Effect.{partOf, nextOf, latchWith, outcomeFor, effectCall}

@@ -8,7 +8,7 @@ use Rattle.settings.specs.declared.Settings.{Settings}
 use Rattle.state.specs.declared.State.{State}
 use Rattle.start.specs.Start.{startFrom}
 use Rattle.start.proofs.StartBound.{start-reads}
-use Rattle.effect.specs.Join.{empty}
+use Rattle.joining.specs.Join.{empty}
 use Rattle.effect.specs.Demand.{Call, inTurn, drawnAlone}
 use Rattle.effect.proofs.Alone.{demand-3}
 

@@ -1,4 +1,3 @@
-pub mod Joining
 pub mod Alone
 pub mod EffectLaws
 pub mod FromStart

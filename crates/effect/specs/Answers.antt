@@ -4,8 +4,8 @@ use Rattle.memory.specs.Reading.{refusal}
 use Rattle.state.specs.declared.Fields.{Fields}
 use Rattle.cells.specs.declared.CellsDrawn.{CellsDrawn}
 use Rattle.cells.specs.declared.CellsDrawn.the-variants as Cells
-use Rattle.effect.specs.declared.Part.{Part}
-use Rattle.effect.specs.declared.Part.the-variants.{Keep, Set, Refuse}
+use Rattle.joining.specs.declared.Part.{Part}
+use Rattle.joining.specs.declared.Part.the-variants.{Keep, Set, Refuse}
 use Rattle.effect.specs.declared.NextFields.{NextFields}
 use Rattle.effect.specs.declared.NextFields.the-variants.{Reached, Unreached}
 use Rattle.effect.specs.declared.EffectAnswer.{EffectAnswer}

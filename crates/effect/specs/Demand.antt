@@ -14,13 +14,13 @@ use Rattle.row.specs.declared.RowAnswer.{RowAnswer}
 use Rattle.row.specs.declared.RowAnswer.the-variants.{Accepted, Refused}
 use Rattle.state.specs.State.{stateOf}
 use Rattle.row.specs.Row.{Called, called, rowCall}
-use Rattle.effect.specs.declared.Effect.{Effect}
-use Rattle.effect.specs.declared.Applied.{Applied}
-use Rattle.effect.specs.declared.Applied.the-variants.{Latch, Refused as Refuses}
+use Rattle.joining.specs.declared.Effect.{Effect}
+use Rattle.joining.specs.declared.Applied.{Applied}
+use Rattle.joining.specs.declared.Applied.the-variants.{Latch, Refused as Refuses}
 use Rattle.effect.specs.declared.NextFields.{NextFields}
 use Rattle.effect.specs.declared.NextFields.the-variants.{Reached, Unreached}
 use Rattle.effect.specs.declared.EffectAnswer.{EffectAnswer}
-use Rattle.effect.specs.Join.{empty, join, apply}
+use Rattle.joining.specs.Join.{empty, join, apply}
 use Rattle.effect.specs.Effect.{effectCall}
 
 -- "any list of row calls, refused ones included, with any row buffers": a call's buffer has any size and any cells. Beside it stands

@@ -8,8 +8,8 @@ use Rattle.settings.specs.declared.Settings.{Settings}
 use Rattle.state.specs.declared.Fields.{Fields}
 use Rattle.state.specs.State.{stateOf}
 use Rattle.row.specs.Row.{Row, row}
-use Rattle.effect.specs.declared.Part.{Part}
-use Rattle.effect.specs.declared.Part.the-variants.{Keep, Set, Refuse}
+use Rattle.joining.specs.declared.Part.{Part}
+use Rattle.joining.specs.declared.Part.the-variants.{Keep, Set, Refuse}
 use Rattle.effect.specs.declared.NextFields.{NextFields}
 use Rattle.effect.specs.declared.NextFields.the-variants.{Reached, Unreached}
 use Rattle.effect.specs.declared.EffectAnswer.{EffectAnswer}

@@ -1,4 +1,3 @@
 pub mod Effect
-pub mod Join
 pub mod Demand
 pub mod Answers

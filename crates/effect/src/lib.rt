@@ -1,7 +1,8 @@
-// Effects of rows on the latch.
+// The effect of a row on the latch.
 use cells::CellsDrawn;
+use joining::Effect;
+use joining::Part;
 use latch::LatchEffect;
-use memory::Refusal;
 use plan::PlanAnswer;
 use plan::PlanHead;
 use settings::Settings;
@@ -13,28 +14,8 @@ ghost use Rattle.plan.specs.Answers.{planOf};
 ghost use Rattle.state.specs.State.{stateOf};
 ghost use Rattle.row.specs.Row.{row};
 ghost use Rattle.effect.specs.declared.NextFields.{NextFields};
-ghost use Rattle.effect.specs.Join.{partFor, setThen, joinPart, join, apply};
 ghost use Rattle.effect.specs.Effect.{partOf, nextOf, effectCall};
 ghost use Rattle.effect.specs.Answers.{sameParts, partDrawn, nextDrawn, effectDrawn};
-
-// What a row does to the latch: keep it, set it to a word, or refuse.
-pub enum Part {
-    Keep,
-    Set(u16),
-    Refuse(Refusal),
-}
-
-// A row effect: its part for an incoming latch with ignore clear, and the one with ignore set.
-pub struct Effect {
-    pub clear: Part,
-    pub set: Part,
-}
-
-// What an effect makes of a latch.
-pub enum Applied {
-    Latch(u16),
-    Refused(Refusal),
-}
 
 // The next state's fields other than the latch, or that both parts refuse.
 pub enum NextFields {
@@ -46,36 +27,6 @@ pub enum NextFields {
 pub struct EffectAnswer {
     pub effect: Effect,
     pub next: NextFields,
-}
-
-impl Effect {
-    // The empty effect: it keeps in both parts.
-    pub const EMPTY: Effect = Effect {
-        clear: Part::Keep,
-        set: Part::Keep,
-    };
-
-    // This effect, and then `next`.
-    pub fn join(self, next: Effect) -> Effect
-        ensures { λ r. ⌜ r ≡ join self next ⌝ }
-    {
-        let p = self.clear;
-        let q = self.set;
-        let clear = join_part(p, false, next);
-        let set = join_part(q, true, next);
-        Effect { clear, set }
-    }
-
-    // What the effect makes of a latch.
-    pub fn apply(self, latch: u16) -> Applied
-        ensures { λ r. ⌜ r ≡ apply self latch ⌝ }
-    {
-        match part_for(memory::bit_13(latch), self) {
-            Part::Keep => Applied::Latch(latch),
-            Part::Set(w) => Applied::Latch(w),
-            Part::Refuse(r) => Applied::Refused(r),
-        }
-    }
 }
 
 // The effect of a row, with the next state's fields: its plan once, and then what becomes of the latch, told without its cells.
@@ -211,37 +162,5 @@ fn next_of(reached: Fields, d: CellsDrawn, otherwise: NextFields) -> NextFields
             latched: _,
             words: _,
         } => NextFields::Reached(reached),
-    }
-}
-
-// The part for an incoming latch, by its ignore.
-fn part_for(ignore: bool, e: Effect) -> Part
-    ensures { λ r. ⌜ r ≡ partFor ignore e ⌝ }
-{
-    if ignore { e.set } else { e.clear }
-}
-
-// A part, for an incoming latch of this ignore, and then an effect.
-fn join_part(p: Part, ignore: bool, next: Effect) -> Part
-    ensures { λ r. ⌜ r ≡ joinPart p ignore next ⌝ }
-{
-    match p {
-        Part::Refuse(first) => Part::Refuse(first),
-        Part::Keep => part_for(ignore, next),
-        Part::Set(w) => {
-            let ignores = memory::bit_13(w);
-            set_then(w, part_for(ignores, next))
-        }
-    }
-}
-
-// The latch set to a word, and then a part.
-fn set_then(w: u16, p: Part) -> Part
-    ensures { λ r. ⌜ r ≡ setThen w p ⌝ }
-{
-    match p {
-        Part::Keep => Part::Set(w),
-        Part::Set(v) => Part::Set(v),
-        Part::Refuse(r) => Part::Refuse(r),
     }
 }

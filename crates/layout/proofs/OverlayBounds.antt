@@ -6,9 +6,10 @@ use lib.Dec.{leb}
 use borrow.Author.Tests.{leb-true}
 use Rattle.memory.proofs.ReadBounds.{Reads, dones, bind, check-reads, if-reads}
 use Rattle.settings.specs.declared.Settings.{Settings}
-use Rattle.blocks.specs.declared.WindowInHand.{WindowInHand}
-use Rattle.blocks.specs.declared.WindowInHand.the-variants.{Absent, Present}
-use Rattle.blocks.proofs.BlockBounds.{Few, window-row-reads, Placed}
+use Rattle.windows.specs.declared.WindowInHand.{WindowInHand}
+use Rattle.windows.specs.declared.WindowInHand.the-variants.{Absent, Present}
+use Rattle.blocks.proofs.BlockBounds.{Few, window-row-reads}
+use Rattle.windows.proofs.WindowBounds.{Placed}
 use Rattle.layout.specs.Layout.{total, allFit, Overlay, none, over}
 use Rattle.layout.specs.Overlay.{windowRow, overlaid}
 

@@ -10,8 +10,8 @@ use Rattle.memory.specs.Reading.{Reading, done, fault, _>>_, check, given, refu
 use Rattle.memory.proofs.Laws.{bind-given, bind-refused, check-passed, check-failed, run-done}
 use Rattle.settings.specs.declared.Settings.{Settings}
 use Rattle.blocks.specs.declared.Segment.{Segment}
-use Rattle.blocks.specs.declared.Window.{Window}
-use Rattle.blocks.specs.declared.WindowInHand.the-variants.{Present}
+use Rattle.windows.specs.declared.Window.{Window}
+use Rattle.windows.specs.declared.WindowInHand.the-variants.{Present}
 use Rattle.blocks.specs.RowBlock.{RowBlock, windowRowAt}
 use Rattle.layout.specs.declared.Measure.{Measure}
 use Rattle.layout.specs.Layout.{total, allFit, over}

@@ -6,9 +6,9 @@ use Rattle.memory.specs.Word.{if_then_else_}
 use Rattle.memory.specs.declared.Pointer.{Pointer}
 use Rattle.memory.specs.Reading.{Reading, done, _>>=_, _>>_, check}
 use Rattle.settings.specs.declared.Settings.{Settings}
-use Rattle.blocks.specs.declared.Window.{Window}
-use Rattle.blocks.specs.declared.WindowInHand.{WindowInHand}
-use Rattle.blocks.specs.declared.WindowInHand.the-variants.{Absent, Present}
+use Rattle.windows.specs.declared.Window.{Window}
+use Rattle.windows.specs.declared.WindowInHand.{WindowInHand}
+use Rattle.windows.specs.declared.WindowInHand.the-variants.{Absent, Present}
 use Rattle.blocks.specs.RowBlock.{windowRowAt}
 use Rattle.layout.specs.Layout.{total, allFit, Overlay, none, over}
 

@@ -1,12 +1,12 @@
 // The window on a row.
 use crate::OverlayHead;
 use blocks::BlockRead;
-use blocks::Window;
-use blocks::WindowBlock;
-use blocks::WindowInHand;
 use memory::Fault;
 use memory::Pointer;
 use settings::Settings;
+use windows::Window;
+use windows::WindowBlock;
+use windows::WindowInHand;
 ghost use mathlib.Core.Path.{_≡_};
 ghost use mathlib.Core.Bool.{_&&_};
 ghost use mathlib.Core.List.{List};

@@ -17,11 +17,11 @@ use Rattle.settings.specs.declared.SheetAnswer.the-variants as Sheet
 use Rattle.settings.specs.Good.{inRange, inOrder, fitsFields, fitsMode, good, checkSettings}
 use Rattle.settings.specs.Sheet.{sheetOf, sheetCall}
 use Rattle.settings.specs.Timing.{clocks, halfLines, timing, linesIn, linesForRows, halved, invokingCodes}
-use Rattle.blocks.specs.declared.WindowInHand.{WindowInHand}
-use Rattle.blocks.specs.declared.WindowInHand.the-variants.{Absent, Present}
+use Rattle.windows.specs.declared.WindowInHand.{WindowInHand}
+use Rattle.windows.specs.declared.WindowInHand.the-variants.{Absent, Present}
 use Rattle.blocks.specs.Main.{mainBlock, mainBlockAt}
 use Rattle.blocks.specs.RowBlock.{segmentOf, segmentsOf, restOfBlock, blockAt, rowBlockAt, windowRowAt, formatOf, redefined}
-use Rattle.blocks.specs.Window as W
+use Rattle.windows.specs.Window as W
 use Rattle.state.specs.declared.Fields.{Fields}
 use Rattle.state.specs.declared.State.{State}
 use Rattle.start.specs.declared.StartAnswer.{StartAnswer}
@@ -39,8 +39,8 @@ use Rattle.row.specs.Row.{Called, row, withCursor, rowCall}
 use Rattle.start.specs.Start.{firstFields, windowStart, startFrom, startCall}
 use Rattle.frame.specs.Step.{begin, step}
 use Rattle.frame.specs.Frame.{within, rest, frame, handedOn}
-use Rattle.effect.specs.declared.Part.{Part}
-use Rattle.effect.specs.declared.Part.the-variants.{Keep, Set, Refuse}
+use Rattle.joining.specs.declared.Part.{Part}
+use Rattle.joining.specs.declared.Part.the-variants.{Keep, Set, Refuse}
 use Rattle.effect.specs.Effect.{outcomeFor, effectCall}
 
 -- ---- tests ----

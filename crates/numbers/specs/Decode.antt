@@ -11,21 +11,16 @@ use Rattle.settings.specs.declared.Settings.{Settings}
 use Rattle.blocks.specs.declared.Cursor.{Cursor}
 use Rattle.blocks.specs.declared.FillMode.{FillMode}
 use Rattle.blocks.specs.declared.RowFormat.{RowFormat}
-use Rattle.blocks.specs.declared.WindowInHand.{WindowInHand}
-use Rattle.blocks.specs.declared.WindowInHand.the-variants.{Absent, Present}
+use Rattle.windows.specs.declared.WindowInHand.{WindowInHand}
+use Rattle.windows.specs.declared.WindowInHand.the-variants.{Absent, Present}
 use Rattle.state.specs.declared.Fields.{Fields}
 use Rattle.state.specs.declared.State.{State}
 use Rattle.state.specs.State.{stateOf}
-use Rattle.effect.specs.declared.Part.{Part}
-use Rattle.effect.specs.declared.Part.the-variants.{Keep, Set, Refuse}
-use Rattle.effect.specs.declared.Effect.{Effect}
 use Rattle.numbers.specs.declared.decode.SettingsIn.{SettingsIn}
 use Rattle.numbers.specs.declared.decode.SettingsIn.the-variants as Settings-in
 use Rattle.numbers.specs.declared.decode.StateIn.{StateIn}
 use Rattle.numbers.specs.declared.decode.StateIn.the-variants as State-in
-use Rattle.numbers.specs.declared.decode.EffectIn.{EffectIn}
-use Rattle.numbers.specs.declared.decode.EffectIn.the-variants as Effect-in
-use Rattle.numbers.specs.Places.{within, settingsLimits, stateLimits, effectLimits}
+use Rattle.numbers.specs.Places.{within, settingsLimits, stateLimits}
 
 -- 0 is no, 1 is yes
 abbrev pub yes : ℕ → Bool
@@ -87,17 +82,3 @@ stateAt xs = stateOf (at xs 0) (fieldsAt xs)
 
 unfoldable pub stateIn : List ℕ → StateIn
 stateIn xs = if within stateLimits xs then State-in.Fit (stateAt xs) else State-in.Unfit
-
--- a part: a refusal where its number is not 0, else a set or a keep
-abbrev pub partAt : ℕ → ℕ → ℕ → ℕ → ℕ → Part
-partAt number row address sets word =
-    if eqb number 0 then (if yes sets then Set word else Keep) else Refuse (record { number = number; row = row; address = address })
-
-unfoldable pub effectAt : List ℕ → Effect
-effectAt xs = record {
-  clear = partAt (at xs 0) (at xs 1) (at xs 2) (at xs 3) (at xs 4);
-  set = partAt (at xs 5) (at xs 6) (at xs 7) (at xs 8) (at xs 9);
-}
-
-unfoldable pub effectIn : List ℕ → EffectIn
-effectIn xs = if within effectLimits xs then Effect-in.Fit (effectAt xs) else Effect-in.Unfit

@@ -25,11 +25,6 @@ stateLimits =
     65535 ∷ 65535 ∷ 65535 ∷ 255 ∷ 255 ∷ 255 ∷ 1 ∷ 255 ∷ 65535 ∷ 255 ∷ 255 ∷ 4294967295
     ∷ 1 ∷ 255 ∷ 255 ∷ 255 ∷ 255 ∷ 4294967295 ∷ 4294967295 ∷ []
 
--- the part for ignore clear, then the one for ignore set. Each: the number of its refusal, or 0, its row and its address; whether it
--- sets the latch, and the word
-abbrev pub effectLimits : List ℕ
-effectLimits = 13 ∷ 65535 ∷ 4294967295 ∷ 1 ∷ 65535 ∷ 13 ∷ 65535 ∷ 4294967295 ∷ 1 ∷ 65535 ∷ []
-
 -- the same as facts on numbers, from the place i on
 abbrev pub Below : ℕ → List ℕ → List ℕ → Type 0
 Below i [] xs = Unit

@@ -1,23 +1,19 @@
-// Settings, a state and an effect, from numbers at their places.
+// Settings and a state, from numbers at their places.
 use blocks::Cursor;
 use blocks::FillMode;
 use blocks::RowFormat;
-use blocks::Window;
-use blocks::WindowBlock;
-use blocks::WindowInHand;
-use effect::Effect;
-use effect::Part;
 use memory::Pointer;
-use memory::Refusal;
 use settings::Interlace;
 use settings::PointerWords;
 use settings::Settings;
 use state::Fields;
 use state::State;
+use windows::Window;
+use windows::WindowBlock;
+use windows::WindowInHand;
 ghost use mathlib.Core.Path.{_≡_};
-ghost use Prim.Native.Nat.{_≤_};
-ghost use Rattle.numbers.specs.Places.{within, Within, settingsLimits, stateLimits, effectLimits};
-ghost use Rattle.numbers.specs.Decode.{interlaceOf, settingsAt, settingsIn, formatAt, windowAt, fieldsAt, stateAt, stateIn, partAt, effectAt, effectIn};
+ghost use Rattle.numbers.specs.Places.{within, Within, settingsLimits, stateLimits};
+ghost use Rattle.numbers.specs.Decode.{interlaceOf, settingsAt, settingsIn, formatAt, windowAt, fieldsAt, stateAt, stateIn};
 
 // Settings, or that the numbers are none: too few, too many, or one that no setting can have.
 pub enum SettingsIn {
@@ -27,11 +23,6 @@ pub enum SettingsIn {
 
 pub enum StateIn {
     Fit(State),
-    Unfit,
-}
-
-pub enum EffectIn {
-    Fit(Effect),
     Unfit,
 }
 
@@ -95,30 +86,8 @@ pub fn state_in(numbers: &[u32]) -> StateIn
     }
 }
 
-pub fn effect_in(numbers: &[u32]) -> EffectIn
-    ensures { λ r. ⌜ r ≡ effectIn (now (numbers .entry)) ⌝ }
-{
-    let limits = [
-        13u32, // with ignore clear: refusal
-        65535, // its row
-        4294967295, // its address
-        1, // set
-        65535, // word
-        13, // with ignore set: refusal
-        65535, // its row
-        4294967295, // its address
-        1, // set
-        65535, // word
-    ];
-    if within(&limits, numbers) {
-        EffectIn::Fit(effect_at(numbers))
-    } else {
-        EffectIn::Unfit
-    }
-}
-
 // As many numbers as limits, and none above its limit.
-fn within(limits: &[u32], numbers: &[u32]) -> bool
+pub fn within(limits: &[u32], numbers: &[u32]) -> bool
     ensures { λ r. ⌜ r ≡ within (now (limits .entry)) (now (numbers .entry)) ⌝ }
 {
     if numbers.len() != limits.len() {
@@ -246,31 +215,4 @@ fn state_at(n: &[u32]) -> State
         latch: n[0] as u16,
         fields,
     }
-}
-
-fn part_at(number: u32, row: u32, address: u32, sets: u32, word: u32) -> Part
-    requires { ⌜ (number ≤ 255) × (row ≤ 65535) × (word ≤ 65535) ⌝ }
-    ensures { λ r. ⌜ r ≡ partAt number row address sets word ⌝ }
-{
-    if number != 0 {
-        return Part::Refuse(Refusal {
-            number: number as u8,
-            row: row as u16,
-            address,
-        });
-    }
-    if sets == 1 {
-        Part::Set(word as u16)
-    } else {
-        Part::Keep
-    }
-}
-
-fn effect_at(n: &[u32]) -> Effect
-    requires { ⌜ Within effectLimits (now n) ⌝ }
-    ensures { λ r. ⌜ r ≡ effectAt (now (n .entry)) ⌝ }
-{
-    let clear = part_at(n[0], n[1], n[2], n[3], n[4]);
-    let set = part_at(n[5], n[6], n[7], n[8], n[9]);
-    Effect { clear, set }
 }

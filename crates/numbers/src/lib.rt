@@ -1,3 +1,3 @@
-// Settings, states, effects and answers as numbers at fixed places of a slice (include/thagaduvin.h has the table).
-pub mod decode; // settings, a state and an effect from numbers
-pub mod encode; // states, effects and answers as numbers
+// Settings and states as numbers at fixed places of a slice (include/thagaduvin.h has the table).
+pub mod decode; // settings and a state from numbers
+pub mod encode; // a state as numbers

@@ -10,7 +10,8 @@ use Rattle.memory.specs.declared.Pointer.{Pointer}
 use Rattle.settings.specs.declared.Settings.{Settings}
 use Rattle.settings.specs.Good.{good, checkSettings}
 use Rattle.blocks.specs.declared.RowFormat.{RowFormat}
-use Rattle.blocks.proofs.BlockBounds.{Few, row-block-reads, redefined-reads, due-reads}
+use Rattle.blocks.proofs.BlockBounds.{Few, row-block-reads, redefined-reads}
+use Rattle.windows.proofs.WindowBounds.{due-reads}
 use Rattle.state.specs.declared.Fields.{Fields}
 use Rattle.state.specs.State.{inRange}
 use Rattle.state.proofs.StateLaws.{placed, lines-within, has-line}

@@ -14,10 +14,11 @@ use Rattle.memory.proofs.ReadBounds.{Words, reads-given}
 use Rattle.settings.specs.declared.Settings.{Settings}
 use Rattle.settings.specs.Good.{checkSettings}
 use Rattle.blocks.specs.declared.RowFormat.{RowFormat}
-use Rattle.blocks.specs.declared.WindowInHand.{WindowInHand}
+use Rattle.windows.specs.declared.WindowInHand.{WindowInHand}
 use Rattle.blocks.specs.RowBlock.{RowBlock, rowBlockAt, redefined}
-use Rattle.blocks.specs.Window.{dueWindow}
-use Rattle.blocks.proofs.BlockBounds.{row-block-reads, redefined-reads, due-reads}
+use Rattle.windows.specs.Window.{dueWindow}
+use Rattle.blocks.proofs.BlockBounds.{row-block-reads, redefined-reads}
+use Rattle.windows.proofs.WindowBounds.{due-reads}
 use Rattle.state.specs.declared.Fields.{Fields}
 use Rattle.state.specs.State.{inRange}
 use Rattle.state.proofs.StateLaws.{placed}

@@ -10,9 +10,9 @@ use Rattle.settings.specs.declared.Settings.{Settings}
 use Rattle.settings.specs.Good.{checkSettings}
 use Rattle.blocks.specs.declared.Segment.{Segment}
 use Rattle.blocks.specs.declared.RowFormat.{RowFormat}
-use Rattle.blocks.specs.declared.WindowInHand.{WindowInHand}
+use Rattle.windows.specs.declared.WindowInHand.{WindowInHand}
 use Rattle.blocks.specs.RowBlock.{RowBlock, rowBlockAt, redefined}
-use Rattle.blocks.specs.Window.{dueWindow}
+use Rattle.windows.specs.Window.{dueWindow}
 use Rattle.state.specs.declared.Fields.{Fields}
 use Rattle.state.specs.State.{inRange}
 use Rattle.layout.specs.Layout.{total, allFit, Overlay, edgesFit}

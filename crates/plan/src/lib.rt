@@ -3,8 +3,6 @@ use blocks::BlockHead;
 use blocks::BlockRead;
 use blocks::FormatRead;
 use blocks::RowFormat;
-use blocks::WindowInHand;
-use blocks::WindowRead;
 use layout::OverlayHead;
 use layout::overlay;
 use layout::overlay::OverlayRead;
@@ -13,6 +11,8 @@ use memory::Pointer;
 use settings::Settings;
 use settings::SettingsCheck;
 use state::Fields;
+use windows::WindowInHand;
+use windows::WindowRead;
 ghost use mathlib.Core.Path.{_≡_};
 ghost use mathlib.Core.Bool.{true};
 ghost use Prim.Native.Nat.{_<_};
@@ -124,7 +124,7 @@ fn plan_blocks(
     ensures { λ r. ⌜ planAnswer (settings .linear) r (now (back .exit)) (now (over .exit)) ≡ run (now (mem .entry)) (fromBlocks settings fields) ⌝ }
 {
     let in_hand = fields.window;
-    match blocks::due_window(mem, settings.linear, fields.row, in_hand) {
+    match windows::due_window(mem, settings.linear, fields.row, in_hand) {
         WindowRead::Read { window, words } => match background_row(mem, settings, fields, back) {
             BackgroundRead::Read { block, format } => {
                 match overlay::overlay_row(mem, settings, fields.row, window, over) {

@@ -5,6 +5,73 @@ use settings::Interlace;
 use settings::PointerWords;
 use settings::Settings;
 
+// The words of memory, sixteen bytes a line from address 0 on; those after them are 0, and so are the 132 codes at 0210.
+const LINES: [[u16; 8]; 33] = [
+    [0, 0, 0, 0, 0, 0, 0, 0],
+    // Main blocks of frames 0 to 4: first row block, cursor 3 on row 2, full stops to fill with and the fill flag, four lines a row.
+    [0, 0x0060, 0x0302, 0x012E, 0, 0, 3, 0],
+    [0, 0x0140, 0x0302, 0x012E, 0, 0, 3, 0],
+    [0, 0x0160, 0x0302, 0x012E, 0, 0, 3, 0],
+    [0, 0x0180, 0x0302, 0x012E, 0, 0, 3, 0],
+    [0, 0x00D0, 0x0302, 0x012E, 0, 0, 3, 0],
+    // Rows of frame 0, from 0060: text with latched and ignored characters, and a last fill word that sets ignore;
+    [0, 0x0080, 1, 0, 0x01B0, 0, 0x01E0, 0x0404],
+    [0, 0, 0, 0, 0, 0, 0, 0],
+    // 0080: three segments, whose second ends ignore unless a window covers it;
+    [0, 0x00B0, 3, 0, 0x01B4, 0, 0, 0x0202],
+    [0, 0x01B8, 0, 0x01E8, 0x0404, 0, 0x01C0, 0],
+    [0, 0x0606, 0, 0, 0, 0, 0, 0],
+    // 00B0: a redefinition, and a segment that is all fill;
+    [0, 0x00D0, 0x8001, 0, 0x01FC, 0, 0, 0],
+    [0x01EC, 2, 0, 0, 0, 0, 0, 0],
+    // 00D0: a full row, whose fill word is taken only when ignore comes in set;
+    [0, 0x00E0, 1, 0, 0x0210, 0, 0x01F0, 0x8484],
+    // 00E0: dropped characters, of which one sets ignore.
+    [0, 0x0060, 2, 0, 0x01C8, 0, 0x01F2, 0x0401],
+    [0, 0x01CC, 0, 0, 0x0303, 0, 0, 0],
+    // Window blocks, rows 1 and 2 and then 5 and 6.
+    [0, 0x0110, 0, 0x0120, 0x0102, 0x0205, 0, 0],
+    [0, 0, 0, 0x0130, 0x0506, 0x060B, 0, 0],
+    // Window rows: one with a latch and a fill word, and one that comes again.
+    [0, 0, 1, 0, 0x01D0, 0, 0x01F6, 0x0202],
+    [0, 0x0130, 1, 0, 0x01D4, 0, 0, 0x0403],
+    // Rows of frame 1: a full row with a fill word without bit 15, and a row that sets ignore, in turn.
+    [0, 0x0150, 1, 0, 0x0210, 0, 0x0202, 0x8484],
+    [0, 0x0140, 1, 0, 0x01B0, 0, 0x01E0, 0x0404],
+    // Rows of frame 2: one that sets ignore, and one with codes past memory.
+    [0, 0x0170, 1, 0, 0x01B0, 0, 0x01E0, 0x0404],
+    [0, 0, 1, 0, 0x029E, 0, 0, 0x0404],
+    // Rows of frame 3: one that sets ignore, and one with widths 100 and 33.
+    [0, 0x0190, 1, 0, 0x01B0, 0, 0x01E0, 0x0404],
+    [0, 0, 2, 0, 0, 0, 0, 0x0064],
+    [0, 0, 0, 0, 0x0021, 0, 0, 0],
+    // Codes, from 01B0.
+    [0x4849, 0x8182, 0x4142, 0, 0x8384, 0x7879, 0, 0],
+    [0x5445, 0x5854, 0x2121, 0, 0x4185, 0x4286, 0x656E, 0x6400],
+    [0x7787, 0, 0x7777, 0x7777, 0, 0, 0, 0],
+    // Attribute lists, from 01E0, and the redefinition at 01FC.
+    [
+        0x8003,
+        0x2000,
+        0x8104,
+        0xA006,
+        0x8001,
+        0x4002,
+        0x9005,
+        0x8040,
+    ],
+    [0x8004, 0xA00C, 3, 0x8007, 0x8208, 0x8209, 0x02A5, 5],
+    [0x0308, 4, 0, 0, 0, 0, 0, 0],
+];
+
+pub(crate) fn words() -> [u16; 336] {
+    let mut mem = [0u16; 336];
+    for i in 0..264 {
+        mem[i] = LINES[i / 8][i % 8];
+    }
+    mem
+}
+
 pub(crate) fn settings(n: u16) -> Settings {
     let interlace = Interlace::Progressive;
     let top = PointerWords {
@@ -52,108 +119,4 @@ fn first_window(n: u16) -> u16 {
 // The latch that a frame is started with.
 pub(crate) fn latch(n: u16) -> u16 {
     if n < 4 { 0 } else { 0xA001 }
-}
-
-pub(crate) fn write(mem: &mut [u16]) {
-    main_blocks(mem);
-    row_blocks(mem);
-    windows(mem);
-    refused_rows(mem);
-    codes(mem);
-    attributes(mem);
-}
-
-// First row block, cursor 3 on row 2, full stops to fill with and the fill flag, four lines a row.
-fn main_blocks(mem: &mut [u16]) {
-    put(mem, 0x0010, &[0, 0x0060, 0x0302, 0x012E, 0, 0, 3]);
-    put(mem, 0x0020, &[0, 0x0140, 0x0302, 0x012E, 0, 0, 3]);
-    put(mem, 0x0030, &[0, 0x0160, 0x0302, 0x012E, 0, 0, 3]);
-    put(mem, 0x0040, &[0, 0x0180, 0x0302, 0x012E, 0, 0, 3]);
-    put(mem, 0x0050, &[0, 0x00D0, 0x0302, 0x012E, 0, 0, 3]);
-}
-
-// The rows of frame 0: text with latched and ignored characters, and a last fill word that sets ignore; three segments, whose
-// second ends ignore unless a window covers it; a redefinition, and a segment that is all fill; a full row, whose fill word is
-// taken only when ignore comes in set; dropped characters, of which one sets ignore.
-fn row_blocks(mem: &mut [u16]) {
-    put(mem, 0x0060, &[0, 0x0080, 1, 0, 0x01B0, 0, 0x01E0, 0x0404]);
-    put(mem, 0x0080, &[0, 0x00B0, 3, 0, 0x01B4, 0, 0, 0x0202]);
-    put(
-        mem,
-        0x0090,
-        &[0, 0x01B8, 0, 0x01E8, 0x0404, 0, 0x01C0, 0, 0, 0x0606],
-    );
-    put(
-        mem,
-        0x00B0,
-        &[0, 0x00D0, 0x8001, 0, 0x01FC, 0, 0, 0, 0x01EC, 0x0002],
-    );
-    put(mem, 0x00D0, &[0, 0x00E0, 1, 0, 0x0210, 0, 0x01F0, 0x8484]);
-    put(mem, 0x00E0, &[0, 0x0060, 2, 0, 0x01C8, 0, 0x01F2, 0x0401]);
-    put(mem, 0x00F0, &[0, 0x01CC, 0, 0, 0x0303]);
-}
-
-// Window blocks, rows 1 and 2 and then 5 and 6; a window row with a latch and a fill word, and one that comes again.
-fn windows(mem: &mut [u16]) {
-    put(mem, 0x0100, &[0, 0x0110, 0, 0x0120, 0x0102, 0x0205]);
-    put(mem, 0x0110, &[0, 0, 0, 0x0130, 0x0506, 0x060B]);
-    put(mem, 0x0120, &[0, 0, 1, 0, 0x01D0, 0, 0x01F6, 0x0202]);
-    put(mem, 0x0130, &[0, 0x0130, 1, 0, 0x01D4, 0, 0, 0x0403]);
-}
-
-// The rows of frames 1, 2 and 3: in frame 1 a full row with a fill word without bit 15, and a row that sets ignore, in turn; in
-// the others such a row, and then one with codes past memory, or with widths 100 and 33.
-fn refused_rows(mem: &mut [u16]) {
-    put(mem, 0x0140, &[0, 0x0150, 1, 0, 0x0210, 0, 0x0202, 0x8484]);
-    put(mem, 0x0150, &[0, 0x0140, 1, 0, 0x01B0, 0, 0x01E0, 0x0404]);
-    put(mem, 0x0160, &[0, 0x0170, 1, 0, 0x01B0, 0, 0x01E0, 0x0404]);
-    put(mem, 0x0170, &[0, 0, 1, 0, 0x029E, 0, 0, 0x0404]);
-    put(mem, 0x0180, &[0, 0x0190, 1, 0, 0x01B0, 0, 0x01E0, 0x0404]);
-    put(mem, 0x0190, &[0, 0, 2, 0, 0, 0, 0, 0x0064]);
-    put(mem, 0x01A0, &[0, 0, 0, 0, 0x0021]);
-}
-
-fn codes(mem: &mut [u16]) {
-    put(mem, 0x01B0, &[0x4849, 0x8182, 0x4142, 0, 0x8384, 0x7879]);
-    put(
-        mem,
-        0x01C0,
-        &[0x5445, 0x5854, 0x2121, 0, 0x4185, 0x4286, 0x656E, 0x6400],
-    );
-    put(mem, 0x01D0, &[0x7787, 0, 0x7777, 0x7777]);
-}
-
-// Attribute lists, and the redefinition.
-fn attributes(mem: &mut [u16]) {
-    put(
-        mem,
-        0x01E0,
-        &[
-            0x8003,
-            0x2000,
-            0x8104,
-            0xA006,
-            0x8001,
-            0x4002,
-            0x9005,
-            0x8040,
-        ],
-    );
-    put(
-        mem,
-        0x01F0,
-        &[0x8004, 0xA00C, 0x0003, 0x8007, 0x8208, 0x8209],
-    );
-    put(mem, 0x01FC, &[0x02A5, 0x0005, 0x0308, 0x0004]);
-}
-
-// Words from a byte address on, as far as memory goes.
-fn put(mem: &mut [u16], address: usize, words: &[u16]) {
-    let at = address / 2;
-    for i in 0..words.len() {
-        if mem.len() <= at + i {
-            return;
-        }
-        mem[at + i] = words[i];
-    }
 }

@@ -1,16 +1,16 @@
 // Rows drawn alone: each frame is drawn in turn, and then each of its rows again, in another order, from the effects of the
 // rows above it. Every line that is written says whether the row alone is the one drawn in turn.
 use crate::same::Outcome;
-use effect::Applied;
-use effect::Effect;
 use effect::NextFields;
+use joining::Applied;
+use joining::Effect;
 use row::RowAnswer;
 use settings::Settings;
 use start::StartAnswer;
 use state::Fields;
 use state::State;
 ghost use mathlib.Core.Path.{_≡_};
-ghost use Rattle.effect.specs.Join.{empty};
+ghost use Rattle.joining.specs.Join.{empty};
 
 mod frames; // the frames in memory
 mod report; // what is written
@@ -25,8 +25,7 @@ struct Turn {
 }
 
 fn main() {
-    let mut mem = [0u16; 336];
-    frames::write(&mut mem);
+    let mem = frames::words();
     let mut count = report::Count {
         same: 0,
         differing: 0,
@@ -65,7 +64,7 @@ fn draw_in_turn(settings: Settings, mem: &[u16], first: State) -> [Turn; 8] {
         above,
     }; 8];
     for i in 0..8 {
-        let outcome = draw_row(settings, mem, state, 0);
+        let outcome = draw_row(settings, mem, state, [0; 132]);
         turns[i] = Turn {
             outcome,
             fields,
@@ -111,9 +110,9 @@ fn redraw_rows(
     count
 }
 
-// A row into a buffer whose cells were all alike.
-fn draw_row(settings: Settings, mem: &[u16], state: State, before: u32) -> Outcome {
-    let mut cells = [before; 132];
+// A row into a buffer.
+fn draw_row(settings: Settings, mem: &[u16], state: State, buffer: [u32; 132]) -> Outcome {
+    let mut cells = buffer;
     let answer = row::row(settings, mem, state, &mut cells);
     Outcome { answer, cells }
 }
@@ -127,7 +126,7 @@ fn draw_alone(
     above: Effect,
 ) -> Outcome {
     match above.apply(latch) {
-        Applied::Latch(l) => draw_row(settings, mem, State { latch: l, fields }, 0xFFFFFF),
+        Applied::Latch(l) => draw_row(settings, mem, State { latch: l, fields }, [0xFFFFFF; 132]),
         Applied::Refused(r) => same::refused(r),
     }
 }

@@ -2,12 +2,12 @@
 use blocks::Cursor;
 use blocks::FillMode;
 use blocks::RowFormat;
-use blocks::Window;
-use blocks::WindowInHand;
 use memory::Refusal;
 use row::DrawnRow;
 use row::RowAnswer;
 use state::Fields;
+use windows::Window;
+use windows::WindowInHand;
 
 // A row call's answer, and its row buffer after it.
 pub(crate) struct Outcome {

@@ -10,8 +10,8 @@ use Rattle.settings.specs.declared.PointerWords.{PointerWords}
 use Rattle.settings.specs.declared.Settings.{Settings}
 use Rattle.settings.specs.Good.{good, checkSettings}
 use Rattle.blocks.specs.Main.{mainBlock, mainBlockAt}
-use Rattle.blocks.specs.Window.{firstWindow}
-use Rattle.blocks.proofs.BlockBounds.{window-reads}
+use Rattle.windows.specs.Window.{firstWindow}
+use Rattle.windows.proofs.WindowBounds.{window-reads}
 use Rattle.start.specs.Top.{registered, enabled, ofWindow, topBlock}
 use Rattle.start.specs.Start.{firstFields, windowStart, startFrom}
 

@@ -11,9 +11,9 @@ use Rattle.settings.specs.declared.PointerWords.{PointerWords}
 use Rattle.settings.specs.declared.Settings.{Settings}
 use Rattle.settings.specs.Good.{checkSettings}
 use Rattle.blocks.specs.declared.MainBlock.{MainBlock}
-use Rattle.blocks.specs.declared.WindowInHand.{WindowInHand}
+use Rattle.windows.specs.declared.WindowInHand.{WindowInHand}
 use Rattle.blocks.specs.Main.{mainBlockAt}
-use Rattle.blocks.specs.Window.{firstWindow}
+use Rattle.windows.specs.Window.{firstWindow}
 use Rattle.state.specs.State.{stateOf}
 use Rattle.start.specs.Top.{registered, enabled, ofWindow, topBlock}
 use Rattle.start.specs.Start.{firstFields, windowStart, mainStart, startFrom}

@@ -7,8 +7,8 @@ use Rattle.settings.specs.Good.{checkSettings}
 use Rattle.settings.specs.Timing.{linesForRows}
 use Rattle.blocks.specs.declared.MainBlock.{MainBlock}
 use Rattle.blocks.specs.declared.RowFormat.{RowFormat}
-use Rattle.blocks.specs.declared.WindowInHand.{WindowInHand}
-use Rattle.blocks.specs.Window.{firstWindow}
+use Rattle.windows.specs.declared.WindowInHand.{WindowInHand}
+use Rattle.windows.specs.Window.{firstWindow}
 use Rattle.state.specs.declared.Fields.{Fields}
 use Rattle.state.specs.declared.State.{State}
 use Rattle.start.specs.declared.StartAnswer.{StartAnswer}

@@ -2,14 +2,14 @@
 use blocks::MainBlock;
 use blocks::MainRead;
 use blocks::RowFormat;
-use blocks::WindowInHand;
-use blocks::WindowRead;
 use memory::Refusal;
 use settings::PointerWords;
 use settings::Settings;
 use settings::SettingsCheck;
 use state::Fields;
 use state::State;
+use windows::WindowInHand;
+use windows::WindowRead;
 ghost use mathlib.Core.Path.{_≡_};
 ghost use mathlib.Core.Bool.{_&&_};
 ghost use Rattle.memory.specs.Word.{bit};
@@ -95,7 +95,7 @@ fn start_window(settings: Settings, mem: &[u16], latch: u16, main: MainBlock) ->
     ensures { λ r. ⌜ r ≡ started (runFrom 7 (now (mem .entry)) (windowStart latch settings main)) ⌝ }
 {
     let tow = memory::pointer_of(settings.linear, settings.tow.first, settings.tow.second);
-    match blocks::first_window(mem, settings.linear, tow) {
+    match windows::first_window(mem, settings.linear, tow) {
         WindowRead::Refused(fault) => StartAnswer::Refused(memory::refusal_of(0, fault)),
         WindowRead::Read { window, words } => {
             let fields = first_fields(settings, main, window);

@@ -5,10 +5,10 @@ use Prim.Native.Nat.{_+_, _≤_}
 use lib.Dec.{leb}
 use borrow.Author.Tests.{leb-true}
 use Rattle.memory.proofs.ReadBounds.{both}
-use Rattle.blocks.specs.declared.WindowInHand.{WindowInHand}
-use Rattle.blocks.specs.declared.WindowInHand.the-variants.{Absent, Present}
-use Rattle.blocks.specs.Window.{inOrder}
-use Rattle.blocks.proofs.BlockBounds.{Placed, in-order}
+use Rattle.windows.specs.declared.WindowInHand.{WindowInHand}
+use Rattle.windows.specs.declared.WindowInHand.the-variants.{Absent, Present}
+use Rattle.windows.specs.Window.{inOrder}
+use Rattle.windows.proofs.WindowBounds.{Placed, in-order}
 use Rattle.state.specs.declared.Fields.{Fields}
 use Rattle.memory.specs.Address.{isAddress}
 use Rattle.state.specs.State.{formatInRange, windowInRange, inRange}

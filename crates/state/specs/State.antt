@@ -4,9 +4,9 @@ use mathlib.Core.Bool.{Bool, true, _&&_}
 use lib.Dec.{leb}
 use Rattle.memory.specs.Address.{isAddress}
 use Rattle.blocks.specs.declared.RowFormat.{RowFormat}
-use Rattle.blocks.specs.declared.WindowInHand.{WindowInHand}
-use Rattle.blocks.specs.declared.WindowInHand.the-variants.{Absent, Present}
-use Rattle.blocks.specs.Window.{inOrder}
+use Rattle.windows.specs.declared.WindowInHand.{WindowInHand}
+use Rattle.windows.specs.declared.WindowInHand.the-variants.{Absent, Present}
+use Rattle.windows.specs.Window.{inOrder}
 use Rattle.state.specs.declared.Fields.{Fields}
 use Rattle.state.specs.declared.State.{State}
 

@@ -2,8 +2,8 @@
 use blocks::Cursor;
 use blocks::FillMode;
 use blocks::RowFormat;
-use blocks::WindowInHand;
 use memory::Pointer;
+use windows::WindowInHand;
 ghost use mathlib.Core.Path.{_≡_};
 ghost use Rattle.state.specs.State.{formatInRange, windowInRange, inRange};
 
@@ -50,7 +50,7 @@ fn window_in_range(in_hand: WindowInHand) -> bool
         WindowInHand::Absent => true,
         WindowInHand::Present(w) => {
             let block = w.block;
-            blocks::in_order(block)
+            windows::in_order(block)
                 & memory::is_address(w.rows.address)
                 & memory::is_address(w.block.link.address)
         }

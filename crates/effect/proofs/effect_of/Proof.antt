@@ -1,6 +1,6 @@
 use mathlib.Core.Path.{ap, ap₂, _∙_}
-use Rattle.effect.specs.declared.Part.{Part}
-use Rattle.effect.specs.declared.Effect.{Effect}
+use Rattle.joining.specs.declared.Part.{Part}
+use Rattle.joining.specs.declared.Effect.{Effect}
 use Rattle.effect.specs.declared.NextFields.{NextFields}
 use Rattle.effect.specs.Answers.{nextDrawn}
 use borrow.Author.Needs.{needs}

@@ -2,8 +2,8 @@
 use mathlib.Core.Path.{ap, sym}
 use native.Mathlib.Omega.{arith}
 use Rattle.memory.proofs.ReadBounds.{reads-given}
-use Rattle.blocks.proofs.BlockBounds.{window-reads}
-use Rattle.blocks.specs.Window.{firstWindow}
+use Rattle.windows.proofs.WindowBounds.{window-reads}
+use Rattle.windows.specs.Window.{firstWindow}
 use Rattle.start.specs.Start.{started}
 use Rattle.start.proofs.StartLaws.{window-refused, window-started}
 use borrow.Author.Needs.{needs}

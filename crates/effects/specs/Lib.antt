@@ -1,0 +1,2 @@
+pub mod EffectNumbers
+pub mod AfterEffect

@@ -1,0 +1,33 @@
+use mathlib.Core.Path.{sym}
+use borrow.Author.Tests.{lt-ltb, le-ltb}
+use Rattle.memory.proofs.Laws.{run-done}
+use Rattle.windows.specs.Window.{dueWindow}
+use borrow.Author.Needs.{needs}
+use Rattle.windows.proofs.due_window.Statement.{statement}
+use Rattle.windows.proofs.due_window.Tie as tie
+
+returns : tie.Need-returns
+unfolding dueWindow
+returns c = rw (c .enum-told .given .1) (sym (run-done _ _ _))
+
+returns-2 : tie.Need-returns-2
+unfolding dueWindow
+returns-2 c = rw (c .before .before .before .before .before .before .in-hand .given .1, lt-ltb _ _ (c .before .before .before .if1 .taken)) (c .window-at .ensures)
+
+returns-3 : tie.Need-returns-3
+unfolding dueWindow
+returns-3 c = rw (c .before .before .before .in-hand .given .1, le-ltb _ _ (c .if1 .left)) (sym (run-done _ _ _))
+
+pub due-window-spec : {M : Type 1} → statement M
+due-window-spec =
+    tie.close
+    (tie.spec
+    (λ c. search needs)
+    (λ c. search needs)
+    (λ c. search needs)
+    (λ c. search needs)
+    (λ c. search needs)
+    (λ c κs. search needs)
+    returns
+    returns-2
+    returns-3)

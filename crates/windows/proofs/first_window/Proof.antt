@@ -1,0 +1,15 @@
+use Rattle.windows.specs.Window.{firstWindow}
+use borrow.Author.Needs.{needs}
+use Rattle.windows.proofs.first_window.Statement.{statement}
+use Rattle.windows.proofs.first_window.Tie as tie
+
+returns : tie.Need-returns
+unfolding firstWindow
+returns c = c .window-at .ensures
+
+pub first-window-spec : {M : Type 1} → statement M
+first-window-spec =
+    tie.close
+    (tie.spec
+    (λ c κs. search needs)
+    returns)

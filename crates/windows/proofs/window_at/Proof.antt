@@ -1,0 +1,51 @@
+use mathlib.Core.Path.{sym, _∙_}
+use borrow.Author.Tests.{eq-eqb, ne-eqb}
+use Rattle.memory.specs.Reading.{given}
+use Rattle.memory.proofs.Laws.{step-given, step-refused, run-done, check-passed, check-failed}
+use Rattle.memory.proofs.WordLaws.{read-whole, read-refused}
+use Rattle.windows.specs.Window.{windowAt}
+use borrow.Author.Needs.{needs}
+use Rattle.windows.proofs.window_at.Statement.{statement}
+use Rattle.windows.proofs.window_at.Tie as tie
+
+returns : tie.Need-returns
+unfolding windowAt
+returns c = rw (eq-eqb _ 0 (c .if1 .taken)) (sym (run-done _ _ _))
+
+returns-2 : tie.Need-returns-2
+unfolding windowAt
+returns-2 c =
+    let r = c .before .before .before .before .before .before .before .before .read-words in
+    rw (ne-eqb _ 0 (c .before .before .before .before .before .before .before .before .before .before .if1 .left), c .before .before .before .window-of .ensures)
+    (sym (step-given 0 _ _ _ (read-whole _ _ 6 _ _ _ (r .ensures) (c .before .before .before .before .before .enum-told .given .1) (r .kept .1 .1 .1 .0))
+    ∙ check-passed _ _ _ _ _ (sym (rw (c .before .before .before .window-of .ensures) at (c .before .may-follow .ensures)) ∙ c .if2 .taken) ∙ run-done _ _ _))
+
+returns-3 : tie.Need-returns-3
+unfolding windowAt
+returns-3 c =
+    let r = c .before .before .before .before .before .before .before .before .before .read-words in
+    rw (c .fault-of .ensures, ne-eqb _ 0 (c .before .before .before .before .before .before .before .before .before .before .before .if1 .left))
+    (sym (step-given 0 _ _ _ (read-whole _ _ 6 _ _ _ (r .ensures) (c .before .before .before .before .before .before .enum-told .given .1) (r .kept .1 .1 .1 .0))
+    ∙ check-failed _ _ _ _ _ (sym (rw (c .before .before .before .before .window-of .ensures) at (c .before .before .may-follow .ensures)) ∙ c .before .if2 .left)))
+
+returns-4 : tie.Need-returns-4
+unfolding windowAt
+returns-4 c =
+    let r = c .before .before .before .before .read-words in
+    rw (ne-eqb _ 0 (c .before .before .before .before .before .before .if1 .left)) (sym (step-refused 0 _ _ _ (read-refused _ _ 6 _ _ _ (r .ensures) (c .before .fault .given .1))))
+
+pub window-at-spec : {M : Type 1} → statement M
+window-at-spec =
+    tie.close
+    (tie.spec
+    returns
+    (λ c. search needs)
+    (λ c κs. search needs)
+    (λ c. search needs)
+    (λ c κs. search needs)
+    (λ c κs. search needs)
+    (λ c κs. search needs)
+    (λ c. search needs)
+    returns-2
+    returns-3
+    returns-4)
