@@ -3,20 +3,26 @@
 use Prim.Native.Nat.{ℕ}
 use mathlib.Core.Bool.{false}
 use mathlib.Core.List.{List, [], _∷_}
+use lib.IntN.{ℤ, pos}
+use lib.Signed.{ltZ}
 use mir.Syntax.{w32}
 use mir.Val.{toZ, ofZ}
-use Rattle.memory.specs.Word.{at}
+use Rattle.memory.specs.Word.{if_then_else_, at}
 use Rattle.memory.specs.Address.{to}
 use Rattle.windows.specs.declared.WindowInHand.the-variants as InHand
 use Rattle.state.specs.declared.State.{State}
 use Rattle.scroll.specs.declared.Scroll.{Scroll}
 use Rattle.settings.specs.declared.PointerWords.{PointerWords}
+use Rattle.settings.specs.declared.Settings.{Settings}
 use Rattle.scroll.specs.declared.ShiftAnswer.{ShiftAnswer}
 use Rattle.scroll.specs.declared.ShiftAnswer.the-variants as Shift
 use Rattle.beside.specs.declared.BesideRow.{BesideRow}
 use Rattle.beside.specs.declared.BesideAnswer.{BesideAnswer}
 use Rattle.beside.specs.declared.BesideAnswer.the-variants as Beside
-use Rattle.beside.specs.Beside.{BesideCalled}
+use Rattle.beside.specs.Beside.{BesideCalled, besideCall}
+use Rattle.numbers.specs.declared.decode.StateIn.{StateIn}
+use Rattle.numbers.specs.declared.decode.StateIn.the-variants as State-in
+use Rattle.numbers.specs.Decode.{stateIn}
 use Rattle.answers.specs.AnswerNumbers.{withRefusal}
 use Rattle.answers.specs.AfterCall.{Stated, stated}
 
@@ -67,3 +73,14 @@ noState = record {
     window = InHand.Absent;
   };
 }
+
+-- The row beside the cut by the numbers of a state: "up, the one after the frame's last", so the state is looked at when the shift is
+-- positive, and else any will do. Status 255 where no field can have one of its numbers.
+abbrev pub belowState : Settings → List ℕ → ℤ → PointerWords → ℕ → List ℕ → List ℕ → StateIn → Stated
+belowState σ m shift soft latch cells answer (State-in.Fit s) = afterBeside answer (besideCall σ m shift soft latch s cells)
+belowState σ m shift soft latch cells answer State-in.Unfit = stated 255 cells answer
+
+unfoldable pub besideFrom : Settings → List ℕ → ℤ → PointerWords → ℕ → List ℕ → List ℕ → List ℕ → Stated
+besideFrom σ m shift soft latch state cells answer =
+    if ltZ (pos 0) shift then belowState σ m shift soft latch cells answer (stateIn state)
+    else afterBeside answer (besideCall σ m shift soft latch noState cells)

@@ -5,6 +5,8 @@ use blocks::Cursor;
 use blocks::FillMode;
 use blocks::RowFormat;
 use memory::Pointer;
+use numbers::decode;
+use numbers::decode::StateIn;
 use numbers::encode;
 use scroll::Scroll;
 use scroll::ShiftAnswer;
@@ -20,7 +22,7 @@ ghost use mir.Val.{toZ, ofZ};
 ghost use Rattle.scroll.specs.Scroll.{shiftCall};
 ghost use Rattle.beside.specs.Beside.{besideCall};
 ghost use Rattle.answers.specs.AfterCall.{stated};
-ghost use Rattle.shifts.specs.AfterShift.{scrollNumbers, scrollOf, topNumbers, afterShift, besideNumbers, afterBeside, noState};
+ghost use Rattle.shifts.specs.AfterShift.{scrollNumbers, scrollOf, topNumbers, afterShift, besideNumbers, afterBeside, noState, besideFrom};
 
 // A shift call from the scroll in `scroll`: the next one there, and the hard top in `answer`.
 pub fn next_shift(
@@ -50,8 +52,42 @@ pub fn next_shift(
     }
 }
 
+// The row beside the cut, its cells in `cells`, after the state in `state`, which is looked at where the shift is positive.
+pub fn beside_from(
+    settings: Settings,
+    memory: &[u16],
+    shift: i32,
+    soft: PointerWords,
+    latch: u16,
+    state: &[u32],
+    cells: &mut [u32],
+    answer: &mut [u32],
+) -> u8
+    requires { ⌜ length (now answer) ≡ 7 ⌝ }
+    ensures { λ r. ⌜ stated r (now (cells .exit)) (now (answer .exit)) ≡ besideFrom settings (now (memory .entry)) shift soft latch (now (state .entry)) (now (cells .entry)) (now (answer .entry)) ⌝ }
+{
+    if 0 < shift {
+        return match decode::state_in(state) {
+            StateIn::Fit(last) => {
+                next_beside(settings, memory, shift, soft, latch, last, cells, answer)
+            }
+            StateIn::Unfit => 255,
+        };
+    }
+    next_beside(
+        settings,
+        memory,
+        shift,
+        soft,
+        latch,
+        no_state(),
+        cells,
+        answer,
+    )
+}
+
 // The row beside the cut: its cells in `cells`.
-pub fn next_beside(
+fn next_beside(
     settings: Settings,
     memory: &[u16],
     shift: i32,
@@ -79,7 +115,7 @@ pub fn next_beside(
 }
 
 // The state of a call that looks at none.
-pub fn no_state() -> State
+fn no_state() -> State
     ensures { λ r. ⌜ r ≡ noState ⌝ }
 {
     let cursor = Cursor { x: 0, y: 0 };
