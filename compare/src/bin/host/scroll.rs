@@ -87,11 +87,26 @@ impl Console<'_> {
         }
     }
 
-    /// Changes M4 of the main block at a top, or what says how many scan lines its first row has.
-    fn change(&mut self, rng: &mut Rng) {
+    /// The hard or the soft main block, and its first row block.
+    fn blocks(&self, rng: &mut Rng) -> (u32, u32) {
         let [first, second] = rng.pick(&[self.top(), self.soft]);
         let main = pointer(self.linear(), first, second);
-        let row = self.pointer_at(main);
+        (main, self.pointer_at(main))
+    }
+
+    /// A count of words that leaves out the end of a main block, or of a first row block or redefinition.
+    fn cut(&self, rng: &mut Rng) -> usize {
+        let (main, row) = self.blocks(rng);
+        let redefinition = self.pointer_at(self.after(row, 3));
+        let words = 3 + 5 * usize::from(self.word(self.after(row, 2)) & 15);
+        let (block, words) = rng.pick(&[(main, 7), (row, words), (row, 3), (redefinition, 3)]);
+        let words = block as usize / 2 + rng.below(words + 1);
+        words.min(self.memory.len())
+    }
+
+    /// Changes M4 of a main block, or what says how many scan lines its first row has.
+    fn change(&mut self, rng: &mut Rng) {
+        let (main, row) = self.blocks(rng);
         let (m4, head) = (self.after(main, 4), self.after(row, 2));
         let redefinition = self.pointer_at(self.after(row, 3));
         let was = self.word(m4);
@@ -107,6 +122,7 @@ impl Console<'_> {
             10 | 11 => self.write(self.after(main, 6), lines),
             12 => self.write(head, self.word(head) ^ 0x8000),
             13 => self.write(head, self.word(head) & 0x8000 | rng.word() & 0xF),
+            14 if self.word(head) & 0x8000 != 0 => self.write(self.after(row, 4), rng.word()),
             14 => self.write(self.after(main, 1), rng.word()),
             _ if self.word(head) & 0x8000 != 0 && redefinition != 0 => {
                 self.write(self.after(redefinition, 1), lines);
@@ -128,15 +144,19 @@ impl Console<'_> {
         }
     }
 
-    /// One shift call, with settings that are seldom changed. The console goes on from what it gives;
+    /// One shift call, with settings seldom changed and memory seldom cut. The console goes on from what it gives;
     /// after a refusal it mends what was refused, or stays.
     fn shift(&mut self, calls: &mut Calls, rng: &mut Rng) -> Checked<u8> {
         let mut settings = self.settings;
         if rng.once_in(24) {
             settings = odd::settings(rng, &settings);
         }
+        let mut memory = &self.memory[..];
+        if rng.once_in(12) {
+            memory = &memory[..self.cut(rng)];
+        }
         let last = self.scroll;
-        let status = calls.shift(&settings, &self.memory, self.soft, &last, SHIFT_ANSWER)?;
+        let status = calls.shift(&settings, memory, self.soft, &last, SHIFT_ANSWER)?;
         match status {
             0 => {
                 self.scroll = calls.scroll.left();
