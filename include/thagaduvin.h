@@ -175,9 +175,10 @@ uint8_t thagaduvin_apply(const uint32_t *effect, size_t effect_count, uint16_t l
 /* The shift call, before each frame: from the last frame's scroll to this one's, in `scroll`, and the frame's hard top into the answer;
  * the console puts that into TOP and then starts the frame. TOP is the last frame's hard top; `soft_first` and `soft_second` are the two
  * words of the soft top, the main block that the screen shows when this scroll has ended. M4 of the hard top's main block steers: bit
- * 14 enable, 13 up, 12 window (14 with enable: only the background scrolls), 11 to 8 the rate. In the frame that ends a scroll the
- * shift is 0 and the hard top is the soft one. The soft top is looked at in a scroll down only, where a null one is refusal 6; the row
- * that leaves or enters is read for its scan lines, and its segments are not judged: no 9 or 10 here. Refusals: 2, 3, 6, 7 and 14. */
+ * 14 enable, 13 up, 12 window (refused with enable, as only the background scrolls), 11 to 8 the rate: 0 to 7 are 1 to 8 scan lines a
+ * frame, 8 to 15 a scan line in 1 to 8 frames. In the frame that ends a scroll the shift is 0 and the hard top is the soft one. The
+ * soft top is looked at in a scroll down only, where a null one is refusal 6; the row that leaves or enters is read for its scan lines,
+ * and its segments are not judged: no 9 or 10 here. Refusals: 2, 3, 6, 7 and 14, M4 with enable and window; a start gives 14 too. */
 uint8_t thagaduvin_shift(const uint32_t *settings, size_t settings_count, const uint16_t *memory, size_t memory_count,
                          uint16_t soft_first, uint16_t soft_second, uint32_t *scroll, size_t scroll_count, uint32_t *answer,
                          size_t answer_count);
