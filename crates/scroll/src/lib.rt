@@ -1,9 +1,9 @@
 // Soft scroll of the background: the shift call, before each frame.
+use background::BackgroundRead;
 use blocks::MainBlock;
 use blocks::MainRead;
 use memory::Fault;
 use memory::Refusal;
-use background::BackgroundRead;
 use settings::PointerWords;
 use settings::Settings;
 use settings::SettingsCheck;
