@@ -32,7 +32,8 @@ use Rattle.state.specs.State as S
 use Rattle.codes.specs.Attribute.{invokes, sourceNumber, cell}
 use Rattle.layout.specs.Layout.{width, total, allFit, boundary, edgesFit, covered, onSide, segmentsOn}
 use Rattle.layout.specs.Overlay.{windowRow, overlaid}
-use Rattle.plan.specs.Plan.{nextFields, backgroundBlock, backgroundRow, plan}
+use Rattle.background.specs.Background.{backgroundBlock, backgroundRow}
+use Rattle.plan.specs.Plan.{nextFields, plan}
 use Rattle.codes.specs.Codes.{taking, put, character, examine, wordCodes, codes}
 use Rattle.cells.specs.Cells.{filled, fillByWord, fillTo, segment, segmentsTo, rowCells}
 use Rattle.row.specs.Row.{Called, row, withCursor, rowCall}

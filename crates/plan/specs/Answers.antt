@@ -4,19 +4,11 @@ use mathlib.Core.Bool.{Bool}
 use mathlib.Core.List.{List}
 use Rattle.memory.specs.Reading.{Outcome, given, refused}
 use Rattle.blocks.specs.RowBlock.{segmentsOf}
-use Rattle.blocks.specs.Answers.{blockOf}
 use Rattle.layout.specs.Answers.{overlayOf}
-use Rattle.plan.specs.declared.BackgroundRead.{BackgroundRead}
-use Rattle.plan.specs.declared.BackgroundRead.the-variants as Back
 use Rattle.plan.specs.declared.PlanHead.{PlanHead}
 use Rattle.plan.specs.declared.PlanAnswer.{PlanAnswer}
 use Rattle.plan.specs.declared.PlanAnswer.the-variants.{Planned, Refused}
-use Rattle.plan.specs.Plan.{BackgroundRow, Plan}
-
--- the answer of `background_block` and of `background_row`, with the words of the segments, as an outcome
-abbrev pub backgroundRead : Bool → BackgroundRead → List ℕ → Outcome BackgroundRow
-backgroundRead linear (Back.Read b format) ws = given (b .words) (record { block = blockOf linear b ws; format = format })
-backgroundRead linear (Back.Refused x) ws = refused x
+use Rattle.plan.specs.Plan.{Plan}
 
 -- a plan, from what `plan_row` gives and the words of the background's and the window's segments
 abbrev pub planOf : Bool → PlanHead → List ℕ → List ℕ → Plan

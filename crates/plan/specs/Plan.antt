@@ -1,9 +1,8 @@
 -- What a row is drawn from, before any cell: checks 2 to 5, a due window, the row block and its redefinition, 9, 10, the window
 -- row block, 9, 11, and 12. It asks for no latch.
 use Prim.Native.Nat.{ℕ, _+_, _-_, min}
-use mathlib.Core.Bool.{Bool}
 use mathlib.Core.List.{List}
-use lib.Dec.{ltb, leb}
+use lib.Dec.{ltb}
 use Rattle.memory.specs.declared.Pointer.{Pointer}
 use Rattle.memory.specs.Reading.{Reading, done, _>>=_, _>>_, check}
 use Rattle.settings.specs.declared.Settings.{Settings}
@@ -11,12 +10,12 @@ use Rattle.settings.specs.Good.{checkSettings}
 use Rattle.blocks.specs.declared.Segment.{Segment}
 use Rattle.blocks.specs.declared.RowFormat.{RowFormat}
 use Rattle.windows.specs.declared.WindowInHand.{WindowInHand}
-use Rattle.blocks.specs.RowBlock.{RowBlock, rowBlockAt, redefined}
 use Rattle.windows.specs.Window.{dueWindow}
 use Rattle.state.specs.declared.Fields.{Fields}
 use Rattle.state.specs.State.{inRange}
-use Rattle.layout.specs.Layout.{total, allFit, Overlay, edgesFit}
+use Rattle.layout.specs.Layout.{Overlay, edgesFit}
 use Rattle.layout.specs.Overlay.{Overlaid, overlaid}
+use Rattle.background.specs.Background.{BackgroundRow, backgroundRow}
 
 pub record Plan : Type 0 where
   pub lines : ℕ
@@ -40,26 +39,6 @@ nextFields f format link window = record {
   next = link;
   window = window;
 }
-
--- a row's block, and the format that its redefinition makes
-pub record BackgroundRow : Type 0 where
-  pub block : RowBlock
-  pub format : RowFormat
-
--- "the whole row block, then its redefinition (7)"
-unfoldable pub backgroundBlock : Bool → Pointer → RowFormat → Reading BackgroundRow
-backgroundBlock linear p format = do
-  b ← rowBlockAt linear p
-  t ← redefined linear (b .redefinition) format
-  done (record { block = b; format = t })
-
--- ".. 9, 10". Refusal 9: "V > L, code pointer not null"; 10: "background widths sum above 132"
-unfoldable pub backgroundRow : Settings → Fields → Reading BackgroundRow
-backgroundRow σ f = do
-  g ← backgroundBlock (σ .linear) (f .next) (f .format)
-  check 9 (allFit (g .block .segments))
-  check 10 (leb (total (σ .hidden) (g .block .segments)) 132)
-  done g
 
 abbrev pub planned : Fields → BackgroundRow → Overlaid → Plan
 planned f g o = record {

@@ -1,7 +1,5 @@
 // The plan of a row: what it is drawn from, before any cell.
-use blocks::BlockHead;
-use blocks::BlockRead;
-use blocks::FormatRead;
+use background::BackgroundRead;
 use blocks::RowFormat;
 use layout::OverlayHead;
 use layout::overlay;
@@ -18,8 +16,8 @@ ghost use mathlib.Core.Bool.{true};
 ghost use Prim.Native.Nat.{_<_};
 ghost use Rattle.memory.specs.Reading.{fault, run};
 ghost use Rattle.state.specs.State.{inRange};
-ghost use Rattle.plan.specs.Plan.{linesTaken, nextFields, backgroundBlock, backgroundRow, fromBlocks, fromState, plan};
-ghost use Rattle.plan.specs.Answers.{backgroundRead, planAnswer};
+ghost use Rattle.plan.specs.Plan.{linesTaken, nextFields, fromBlocks, fromState, plan};
+ghost use Rattle.plan.specs.Answers.{planAnswer};
 
 // A row's plan but for the segments: `count` of the background's, and the words read.
 pub struct PlanHead {
@@ -37,12 +35,6 @@ pub enum PlanAnswer {
     Refused(Fault),
 }
 
-// A row's block, its words with those of its redefinition, and the format that this makes; or a refusal.
-pub enum BackgroundRead {
-    Read { block: BlockHead, format: RowFormat },
-    Refused(Fault),
-}
-
 // The plan of a row, with the words of its background segments in `back` and of its window's in `over`.
 pub fn plan_row(
     mem: &[u16],
@@ -56,37 +48,6 @@ pub fn plan_row(
     match settings::check_settings(settings) {
         SettingsCheck::Refused(fault) => PlanAnswer::Refused(fault),
         SettingsCheck::Passed => plan_state(mem, settings, fields, back, over),
-    }
-}
-
-// The whole row block that a pointer leads to, with the words of its segments in `back`, then its redefinition of a format.
-pub fn background_block(
-    mem: &[u16],
-    linear: bool,
-    p: Pointer,
-    format: RowFormat,
-    back: &mut [u16; 75],
-) -> BackgroundRead
-    ensures { λ r. ⌜ backgroundRead linear r (now (back .exit)) ≡ run (now (mem .entry)) (backgroundBlock linear p format) ⌝ }
-{
-    match blocks::row_block(mem, linear, p, back) {
-        BlockRead::Read(b) => {
-            let redefinition = b.redefinition;
-            match blocks::redefinition(mem, linear, redefinition, format) {
-                FormatRead::Read { format, words } => {
-                    let link = b.link;
-                    let block = BlockHead {
-                        link,
-                        redefinition,
-                        count: b.count,
-                        words: b.words + words,
-                    };
-                    BackgroundRead::Read { block, format }
-                }
-                FormatRead::Refused(fault) => BackgroundRead::Refused(fault),
-            }
-        }
-        BlockRead::Refused(fault) => BackgroundRead::Refused(fault),
     }
 }
 
@@ -125,7 +86,12 @@ fn plan_blocks(
 {
     let in_hand = fields.window;
     match windows::due_window(mem, settings.linear, fields.row, in_hand) {
-        WindowRead::Read { window, words } => match background_row(mem, settings, fields, back) {
+        WindowRead::Read { window, words } => match background::background_row(
+            mem,
+            settings,
+            fields,
+            back,
+        ) {
             BackgroundRead::Read { block, format } => {
                 match overlay::overlay_row(mem, settings, fields.row, window, over) {
                     OverlayRead::Read {
@@ -168,32 +134,6 @@ fn refused(number: u8) -> PlanAnswer
     ensures { λ r. ⌜ r ≡ PlanAnswer.Refused (fault number) ⌝ }
 {
     PlanAnswer::Refused(memory::fault_of(number))
-}
-
-// The whole row block, then its redefinition; then checks 9 and 10 on its segments.
-fn background_row(
-    mem: &[u16],
-    settings: Settings,
-    fields: Fields,
-    back: &mut [u16; 75],
-) -> BackgroundRead
-    ensures { λ r. ⌜ backgroundRead (settings .linear) r (now (back .exit)) ≡ run (now (mem .entry)) (backgroundRow settings fields) ⌝ }
-{
-    let next = fields.next;
-    let format = fields.format;
-    match background_block(mem, settings.linear, next, format, back) {
-        BackgroundRead::Read { block, format } => {
-            let m = layout::measure_segments(settings.linear, settings.hidden, back, block.count);
-            if !m.fit {
-                return BackgroundRead::Refused(memory::fault_of(9));
-            }
-            if 132 < m.width {
-                return BackgroundRead::Refused(memory::fault_of(10));
-            }
-            BackgroundRead::Read { block, format }
-        }
-        BackgroundRead::Refused(fault) => BackgroundRead::Refused(fault),
-    }
 }
 
 // The lines that a row takes of those left.

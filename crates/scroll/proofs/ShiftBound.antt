@@ -19,7 +19,7 @@ use Rattle.blocks.specs.declared.MainBlock.{MainBlock}
 use Rattle.blocks.specs.declared.RowFormat.{RowFormat}
 use Rattle.blocks.specs.RowBlock.{redefined, formatOf}
 use Rattle.blocks.proofs.BlockBounds.{row-block-reads}
-use Rattle.plan.specs.Plan.{BackgroundRow, backgroundBlock}
+use Rattle.background.specs.Background.{BackgroundRow, backgroundBlock}
 use Rattle.start.specs.Top.{enabled, upward, rateNumber}
 use Rattle.start.proofs.StartBound.{top-reads}
 use Rattle.scroll.specs.declared.Rate.{Rate}

@@ -1,9 +1,9 @@
 // Soft scroll of the background: the shift call, before each frame.
+use background::BackgroundRead;
 use blocks::MainBlock;
 use blocks::MainRead;
 use memory::Fault;
 use memory::Refusal;
-use plan::BackgroundRead;
 use settings::PointerWords;
 use settings::Settings;
 use settings::SettingsCheck;
@@ -126,7 +126,7 @@ fn first_lines(mem: &[u16], linear: bool, main: MainBlock) -> LinesRead
     let rows = main.rows;
     let format = start::first_format(main.lines);
     let mut back = [0u16; 75];
-    match plan::background_block(mem, linear, rows, format, &mut back) {
+    match background::background_block(mem, linear, rows, format, &mut back) {
         BackgroundRead::Refused(fault) => LinesRead::Refused(fault),
         BackgroundRead::Read { block: _, format } => LinesRead::Read(format.lines),
     }

@@ -1,10 +1,10 @@
 -- Checks 9 and 10 are judged from the segments' measure, after the block and its redefinition.
 use mathlib.Core.Path.{sym, _∙_}
 use Rattle.layout.proofs.OverlayLaws.{segments-unfit, segments-wide, segments-pass}
-use Rattle.plan.proofs.PlanLaws.{row-refused, row-checks}
+use Rattle.background.proofs.BackgroundLaws.{row-refused, row-checks}
 use borrow.Author.Needs.{needs}
-use Rattle.plan.proofs.background_row.Statement.{statement}
-use Rattle.plan.proofs.background_row.Tie as tie
+use Rattle.background.proofs.background_row.Statement.{statement}
+use Rattle.background.proofs.background_row.Tie as tie
 
 returns : tie.Need-returns
 returns c =

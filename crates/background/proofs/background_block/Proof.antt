@@ -1,10 +1,10 @@
 -- The block and its redefinition are read one after the other, as the rule says; 83 words at most, so the sum fits.
 use mathlib.Core.Path.{sym}
 use native.Mathlib.Omega.{arith}
-use Rattle.plan.proofs.PlanLaws.{block-refused, format-refused, block-read, block-words}
+use Rattle.background.proofs.BackgroundLaws.{block-refused, format-refused, block-read, block-words}
 use borrow.Author.Needs.{needs}
-use Rattle.plan.proofs.background_block.Statement.{statement}
-use Rattle.plan.proofs.background_block.Tie as tie
+use Rattle.background.proofs.background_block.Statement.{statement}
+use Rattle.background.proofs.background_block.Tie as tie
 
 add-t19 : tie.Need-add-t19
 add-t19 c =

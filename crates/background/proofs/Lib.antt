@@ -1,0 +1,2 @@
+pub mod BackgroundLaws
+pub mod BackgroundBounds

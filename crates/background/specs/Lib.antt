@@ -1,0 +1,2 @@
+pub mod Background
+pub mod Answers
