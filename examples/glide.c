@@ -2,8 +2,8 @@
  * window with the time stands still. Before each frame the console makes a shift call, and in a shifted frame it draws the row
  * beside the cut.
  *
- *     rt staticlib thagaduvin
- *     cc -O2 -Iinclude examples/glide.c target/staticlib/libthagaduvin.a -o target/glide && target/glide
+ *     rt staticlib thagaduvin && rt staticlib thagaduvin_scroll
+ *     cc -O2 -Iinclude examples/glide.c target/staticlib/libthagaduvin_scroll.a target/staticlib/libthagaduvin.a -o target/glide && target/glide
  *
  * prints examples/glide.txt: a line for each frame (shift, phase, hard top, the row beside the cut), and the rows of each frame that
  * is not shifted. */

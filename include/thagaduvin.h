@@ -172,6 +172,8 @@ uint8_t thagaduvin_join(const uint32_t *first, size_t first_count, const uint32_
 /* The latch that an effect makes of `latch`, or its refusal. */
 uint8_t thagaduvin_apply(const uint32_t *effect, size_t effect_count, uint16_t latch, uint32_t *answer, size_t answer_count);
 
+/* The calls of a soft scroll are in a library of their own, libthagaduvin_scroll.a; all others in libthagaduvin.a. */
+
 /* The shift call, before each frame: from the last frame's scroll to this one's, in `scroll`, and the frame's hard top into the answer;
  * the console puts that into TOP and then starts the frame. TOP is the last frame's hard top; `soft_first` and `soft_second` are the two
  * words of the soft top, the main block that the screen shows when this scroll has ended. M4 of the hard top's main block steers: bit

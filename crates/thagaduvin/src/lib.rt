@@ -10,7 +10,6 @@ ghost use Rattle.answers.specs.AfterCall.{answered, stated, drawn};
 ghost use Rattle.thagaduvin.specs.Calls.{hostSheet, hostStart, hostRow, hostLatch};
 
 mod effect_calls; // the calls on effects of rows
-mod scroll_calls; // the calls of a soft scroll
 
 // The settings sheet, in `answer`.
 #[no_mangle]

@@ -1,9 +1,9 @@
 -- Each test of the code is one of `hostShift`'s: the two lengths, then whether the settings fit; `next_shift` gives the rest.
 use borrow.Author.Tests.{eq-eqb, ne-eqb}
-use Rattle.thagaduvin.specs.ScrollCalls.{hostShift}
+use Rattle.thagaduvin_scroll.specs.ScrollCalls.{hostShift}
 use borrow.Author.Needs.{needs}
-use Rattle.thagaduvin.proofs.scroll_calls.thagaduvin_shift.Statement.{statement}
-use Rattle.thagaduvin.proofs.scroll_calls.thagaduvin_shift.Tie as tie
+use Rattle.thagaduvin_scroll.proofs.thagaduvin_shift.Statement.{statement}
+use Rattle.thagaduvin_scroll.proofs.thagaduvin_shift.Tie as tie
 
 returns : tie.Need-returns
 unfolding hostShift

@@ -1,10 +1,11 @@
-// The calls of a soft scroll.
+// A console's calls of a soft scroll (libthagaduvin_scroll.a), over slices and with statuses as thagaduvin's. They stand apart from
+// libthagaduvin.a so that its rows keep their time: the row beside the cut has the code of a row in it once more.
 use numbers::decode;
 use numbers::decode::SettingsIn;
 use settings::PointerWords;
 ghost use mathlib.Core.Path.{_≡_};
 ghost use Rattle.answers.specs.AfterCall.{stated};
-ghost use Rattle.thagaduvin.specs.ScrollCalls.{hostShift, hostBeside};
+ghost use Rattle.thagaduvin_scroll.specs.ScrollCalls.{hostShift, hostBeside};
 
 // The shift of the next frame, in `scroll`, from the last one there; the hard top, in `answer`. `first` and `second` are the soft top.
 #[no_mangle]

@@ -2,10 +2,10 @@
 use borrow.Author.Tests.{eq-eqb, ne-eqb}
 use mir.Syntax.{w32}
 use mir.ValLaws.{toZ-ofZ}
-use Rattle.thagaduvin.specs.ScrollCalls.{hostBeside}
+use Rattle.thagaduvin_scroll.specs.ScrollCalls.{hostBeside}
 use borrow.Author.Needs.{needs}
-use Rattle.thagaduvin.proofs.scroll_calls.thagaduvin_beside.Statement.{statement}
-use Rattle.thagaduvin.proofs.scroll_calls.thagaduvin_beside.Tie as tie
+use Rattle.thagaduvin_scroll.proofs.thagaduvin_beside.Statement.{statement}
+use Rattle.thagaduvin_scroll.proofs.thagaduvin_beside.Tie as tie
 
 returns : tie.Need-returns
 unfolding hostBeside
