@@ -1,4 +1,5 @@
-//! Links libthagaduvin.a to the programs that call it, from the folder HOST_LIB or ../target/staticlib.
+//! Links libthagaduvin.a to the programs that call it, and libthagaduvin_scroll.a to the one that scrolls, from the folder HOST_LIB or
+//! ../target/staticlib.
 
 use std::{env, path::PathBuf};
 
@@ -14,4 +15,7 @@ fn main() {
     for program in ["host", "measure"] {
         println!("cargo::rustc-link-arg-bin={program}={}", library.display());
     }
+    let scroll = folder.join("libthagaduvin_scroll.a");
+    println!("cargo::rerun-if-changed={}", scroll.display());
+    println!("cargo::rustc-link-arg-bin=host={}", scroll.display());
 }

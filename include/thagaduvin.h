@@ -3,9 +3,9 @@
  * A slice is a pointer and its count of elements, one argument after the other. No pointer is null, also where the count is 0. A
  * slice that a call writes (not const) overlaps no other slice of that call.
  *
- * Every call gives a status: 0, accepted; 1 to 13, the number of the refusal; 255, a slice has not the count that its table says, or
+ * Every call gives a status: 0, accepted; 1 to 14, the number of the refusal; 255, a slice has not the count that its table says, or
  * a number that its place cannot have. A 255 writes nothing. A refusal writes the row and the address into the answer and nothing
- * else: state and cells stay as they were. The count of cells is judged by refusal 1, not by 255. */
+ * else: state, scroll and cells stay as they were. The count of cells is judged by refusal 1, not by 255. */
 #ifndef THAGADUVIN_H
 #define THAGADUVIN_H
 
@@ -58,9 +58,19 @@ enum {
     THAGADUVIN_STATE        /* 19 numbers */
 };
 
+/* A scroll, from one frame to the next. An accepted shift call writes all of it; after reset all are 0. Any numbers may stand here: what
+ * is out of range (a shift past 31 either way or against its direction, a phase above 7, a direction that is neither 0 nor 1) is
+ * refusal 3. */
+enum {
+    THAGADUVIN_SHIFT,      /* scan lines in two's complement, (int32_t)scroll[THAGADUVIN_SHIFT]: positive up, negative down */
+    THAGADUVIN_PHASE,      /* frames since the last line of a slow rate, 0 to 7 */
+    THAGADUVIN_DIRECTION,  /* 1 up, 0 down: bit 13 of M4 */
+    THAGADUVIN_SCROLL      /* 3 numbers */
+};
+
 /* Every answer begins with these two. */
 enum {
-    THAGADUVIN_ANSWER_ROW,     /* the row of the call; 0 for a sheet, a start and a latch */
+    THAGADUVIN_ANSWER_ROW,     /* the row of the call; 0 for a sheet, a start, a latch and a shift */
     THAGADUVIN_ANSWER_ADDRESS  /* the address of a refusal; 0 in an accepted call */
 };
 
@@ -123,6 +133,13 @@ enum {
     THAGADUVIN_LATCH_ANSWER    /* 3 numbers */
 };
 
+/* The answer of an accepted shift: the frame's hard top, two words for TOP. */
+enum {
+    THAGADUVIN_HARD_FIRST = 2,
+    THAGADUVIN_HARD_SECOND,
+    THAGADUVIN_SHIFT_ANSWER    /* 4 numbers */
+};
+
 /* The settings sheet. */
 uint8_t thagaduvin_sheet(const uint32_t *settings, size_t settings_count, uint32_t *answer, size_t answer_count);
 
@@ -154,5 +171,28 @@ uint8_t thagaduvin_join(const uint32_t *first, size_t first_count, const uint32_
 
 /* The latch that an effect makes of `latch`, or its refusal. */
 uint8_t thagaduvin_apply(const uint32_t *effect, size_t effect_count, uint16_t latch, uint32_t *answer, size_t answer_count);
+
+/* The calls of a soft scroll are in a library of their own, libthagaduvin_scroll.a; all others in libthagaduvin.a. */
+
+/* The shift call, before each frame: from the last frame's scroll to this one's, in `scroll`, and the frame's hard top into the answer;
+ * the console puts that into TOP and then starts the frame. TOP is the last frame's hard top; `soft_first` and `soft_second` are the two
+ * words of the soft top, the main block that the screen shows when this scroll has ended. M4 of the hard top's main block steers: bit
+ * 14 enable, 13 up, 12 window (refused with enable, as only the background scrolls), 11 to 8 the rate: 0 to 7 are 1 to 8 scan lines a
+ * frame, 8 to 15 a scan line in 1 to 8 frames. In the frame that ends a scroll the shift is 0 and the hard top is the soft one. The
+ * soft top is looked at in a scroll down only, where a null one is refusal 6; the row that leaves or enters is read for its scan lines,
+ * and its segments are not judged: no 9 or 10 here. Refusals: 2, 3, 6, 7 and 14, M4 with enable and window; a start gives 14 too. */
+uint8_t thagaduvin_shift(const uint32_t *settings, size_t settings_count, const uint16_t *memory, size_t memory_count,
+                         uint16_t soft_first, uint16_t soft_second, uint32_t *scroll, size_t scroll_count, uint32_t *answer,
+                         size_t answer_count);
+
+/* The row beside the cut, of a frame that `shift` moves: its cells into `cells`, a second row buffer, and an answer as a row's. `shift`
+ * above 0 (up): the row after the frame's last, given one line; `state` is the state that the frame ended with, and the soft top and
+ * `latch` are not looked at. `shift` below 0 (down): row 0 of a start at the soft top from `latch`, the latch that the frame was started
+ * with; the words are the start's and the row's together, and any slice may stand for `state`. `shift` 0: no row; the answer is all 0
+ * (lines 0 says so), and settings, state and cells are not judged but for 255. No state is written: a refusal here and the latch that
+ * this row leaves are no part of the frame's. */
+uint8_t thagaduvin_beside(const uint32_t *settings, size_t settings_count, const uint16_t *memory, size_t memory_count,
+                          int32_t shift, uint16_t soft_first, uint16_t soft_second, uint16_t latch, const uint32_t *state,
+                          size_t state_count, uint32_t *cells, size_t cells_count, uint32_t *answer, size_t answer_count);
 
 #endif

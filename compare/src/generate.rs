@@ -115,6 +115,8 @@ pub struct Case {
     pub state: Option<State>,
     /// Cells in the row buffer of each call.
     pub buffers: Vec<usize>,
+    /// Tops of the page, for a soft scroll: the main block of the settings, and others.
+    pub tops: Vec<[u16; 2]>,
 }
 
 /// A fault put into a frame while it is built.
@@ -130,13 +132,14 @@ enum Fault {
     WindowColumns,
     FillWord,
     NullTop,
+    ScrollWindow,
     FarPointer,
     Words,
     Truncated,
     Settings,
 }
 
-const FAULTS: [Fault; 13] = [
+const FAULTS: [Fault; 14] = [
     Fault::VisibleAboveLength,
     Fault::WideRow,
     Fault::WideWindow,
@@ -146,6 +149,7 @@ const FAULTS: [Fault; 13] = [
     Fault::WindowColumns,
     Fault::FillWord,
     Fault::NullTop,
+    Fault::ScrollWindow,
     Fault::FarPointer,
     Fault::Words,
     Fault::Truncated,
@@ -248,6 +252,17 @@ struct Frame {
     windows: Vec<u32>,
     window_rows: Vec<u32>,
     lists: Vec<u32>,
+    tops: Vec<[u16; 2]>,
+}
+
+/// M4: soft scroll on or off, in any direction, at any rate. Enable and window are not both set.
+pub fn scroll_word(rng: &mut Rng) -> u16 {
+    let word = rng.word();
+    if rng.once_in(5) {
+        word & !0x4000
+    } else {
+        word & !0x1000 | 0x4000
+    }
 }
 
 fn any_interlace(rng: &mut Rng) -> Interlace {
@@ -431,6 +446,7 @@ impl Frame {
             windows: Vec::new(),
             window_rows: Vec::new(),
             lists: Vec::new(),
+            tops: Vec::new(),
         };
         frame.build(rng, shape);
         frame
@@ -735,19 +751,8 @@ impl Frame {
 
         // Main block.
         let first = if rng.once_in(20) { 0 } else { self.rows[0] };
-        let row = self.image.pointer(rng, first);
-        let noise = rng.word();
         let lines = rng.pick(&[0, 0, 0, 1, 2, 3, 7, 31]);
-        let main = [
-            row[0],
-            row[1],
-            (rng.below(140) << 8 | rng.below(8)) as u16,
-            noise & 0xFE00 | u16::from(self.fill_flag) << 8 | rng.word() & 0xFF,
-            rng.word(),
-            rng.word(),
-            noise << 5 | lines,
-        ];
-        let mut top = self.image.put(rng, &main);
+        let mut top = self.main_block(rng, first, lines);
         if self.falls(rng, Fault::NullTop, 1) {
             top = 0;
         }
@@ -760,6 +765,22 @@ impl Frame {
         }
         self.settings.top = self.image.pointer(rng, top);
         self.settings.tow = self.image.pointer(rng, tow);
+
+        // Main blocks that a scroll can go on to.
+        self.tops.push(self.settings.top);
+        for _ in 0..rng.range(1, 3) {
+            let mut first = if rng.once_in(12) {
+                0
+            } else {
+                rng.pick(&self.rows)
+            };
+            if self.falls(rng, Fault::FarPointer, 6) {
+                first = self.far_address(rng);
+            }
+            let lines = rng.pick(&[0, 1, 3, 7, 12, 31]);
+            let top = self.main_block(rng, first, lines);
+            self.tops.push(self.image.pointer(rng, top));
+        }
 
         match self.fault {
             // In a memory too small for the blocks nothing may have been written.
@@ -783,6 +804,26 @@ impl Frame {
             }
             _ => {}
         }
+    }
+
+    /// Lays a main block with a first row block and the low bits of M6, and gives its address.
+    fn main_block(&mut self, rng: &mut Rng, first: u32, lines: u16) -> u32 {
+        let row = self.image.pointer(rng, first);
+        let noise = rng.word();
+        let mut scroll = scroll_word(rng);
+        if self.falls(rng, Fault::ScrollWindow, 2) {
+            scroll |= 0x5000;
+        }
+        let main = [
+            row[0],
+            row[1],
+            (rng.below(140) << 8 | rng.below(8)) as u16,
+            noise & 0xFE00 | u16::from(self.fill_flag) << 8 | rng.word() & 0xFF,
+            scroll,
+            rng.word(),
+            noise << 5 | lines,
+        ];
+        self.image.put(rng, &main)
     }
 
     /// A state that no start need give: anything in range, with blocks of the frame.
@@ -897,6 +938,7 @@ pub fn case(rng: &mut Rng, shape: &Shape) -> Case {
         memory: frame.image.memory,
         state,
         buffers,
+        tops: frame.tops,
     }
 }
 

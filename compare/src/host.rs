@@ -4,6 +4,7 @@
 use crate::rules::{
     self, Effect, Fields, Interlace, Part, Refusal, Row, Settings, Sheet, State, Window,
 };
+use crate::scroll::{self, Scroll};
 
 /// The status of a slice with a wrong count, or with a number that its place cannot have.
 pub const UNFIT: u8 = 255;
@@ -17,6 +18,8 @@ pub const START_ANSWER: usize = 3;
 pub const ROW_ANSWER: usize = 7;
 pub const APPLY_ANSWER: usize = 3;
 pub const LATCH_ANSWER: usize = 3;
+pub const SCROLL: usize = 3;
+pub const SHIFT_ANSWER: usize = 4;
 
 const ANY: u32 = u32::MAX;
 
@@ -390,4 +393,89 @@ pub fn latch(latch: u16, state: &[u32], answer: &mut [u32]) -> u8 {
     };
     *answer = [0, 0, handed_on.into()];
     0
+}
+
+/// The shift call before a frame, from the last scroll to this frame's. Any numbers may stand in a
+/// scroll: the rules judge them.
+#[inline(never)]
+pub fn shift(
+    settings: &[u32],
+    memory: &[u16],
+    soft: [u16; 2],
+    scroll: &mut [u32],
+    answer: &mut [u32],
+) -> u8 {
+    let Ok(scroll) = <&mut [u32; SCROLL]>::try_from(scroll) else {
+        return UNFIT;
+    };
+    let Ok(answer) = <&mut [u32; SHIFT_ANSWER]>::try_from(answer) else {
+        return UNFIT;
+    };
+    let Some(settings) = settings_of(settings) else {
+        return UNFIT;
+    };
+    let last = Scroll {
+        shift: scroll[0] as i32,
+        phase: scroll[1],
+        direction: scroll[2],
+    };
+    match scroll::shift(&settings, memory, soft, &last) {
+        Ok(shifted) => {
+            let Scroll {
+                shift,
+                phase,
+                direction,
+            } = shifted.scroll;
+            *scroll = [shift as u32, phase, direction];
+            let [first, second] = shifted.top;
+            *answer = [0, 0, first.into(), second.into()];
+            0
+        }
+        Err(refusal) => refuse(refusal, answer),
+    }
+}
+
+/// What the row beside the cut is drawn from, apart from settings and memory: a shift, the soft top,
+/// the latch that the frame was started with and the state that it ended with.
+#[derive(Clone, Copy, Debug)]
+pub struct Beside<'s> {
+    pub shift: i32,
+    pub soft: [u16; 2],
+    pub latch: u16,
+    pub state: &'s [u32],
+}
+
+/// The row beside the cut, where there is one.
+#[inline(never)]
+pub fn beside(
+    settings: &[u32],
+    memory: &[u16],
+    from: &Beside,
+    cells: &mut [u32],
+    answer: &mut [u32],
+) -> u8 {
+    let Ok(answer) = <&mut [u32; ROW_ANSWER]>::try_from(answer) else {
+        return UNFIT;
+    };
+    let Some(settings) = settings_of(settings) else {
+        return UNFIT;
+    };
+    let drawn = if from.shift == 0 {
+        *answer = [0; ROW_ANSWER];
+        return 0;
+    } else if from.shift < 0 {
+        scroll::before_first(&settings, memory, from.soft, from.latch, cells)
+    } else {
+        let Some(state) = state_of(from.state) else {
+            return UNFIT;
+        };
+        scroll::after_last(&settings, memory, &state, cells)
+    };
+    match drawn {
+        Ok(row) => {
+            *answer = row_numbers(&row);
+            0
+        }
+        Err(refusal) => refuse(refusal, answer),
+    }
 }

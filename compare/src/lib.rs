@@ -1,14 +1,17 @@
 //! A second implementation of the display rules: timing, the walk over the blocks,
-//! row effects and the draw program, with a generator of test cases.
+//! row effects, soft scroll and the draw program, with a generator of test cases.
 
 pub mod generate;
 pub mod host;
 pub mod library;
 pub mod rules;
 pub mod script;
+pub mod scroll;
 pub mod vectors;
 
 #[cfg(test)]
 mod plain;
+#[cfg(test)]
+mod scroll_tests;
 #[cfg(test)]
 mod tests;

@@ -1,6 +1,8 @@
 //! The calls of include/thagaduvin.h as the proved library has them. All are inlined into their
 //! callers, so that only a program that calls one needs the library when it is linked.
 
+use crate::host::Beside;
+
 extern "C" {
     fn thagaduvin_sheet(
         settings: *const u32,
@@ -60,6 +62,34 @@ extern "C" {
         latch: u16,
         state: *const u32,
         state_count: usize,
+        answer: *mut u32,
+        answer_count: usize,
+    ) -> u8;
+    fn thagaduvin_shift(
+        settings: *const u32,
+        settings_count: usize,
+        memory: *const u16,
+        memory_count: usize,
+        soft_first: u16,
+        soft_second: u16,
+        scroll: *mut u32,
+        scroll_count: usize,
+        answer: *mut u32,
+        answer_count: usize,
+    ) -> u8;
+    fn thagaduvin_beside(
+        settings: *const u32,
+        settings_count: usize,
+        memory: *const u16,
+        memory_count: usize,
+        shift: i32,
+        soft_first: u16,
+        soft_second: u16,
+        latch: u16,
+        state: *const u32,
+        state_count: usize,
+        cells: *mut u32,
+        cells_count: usize,
         answer: *mut u32,
         answer_count: usize,
     ) -> u8;
@@ -174,6 +204,58 @@ pub fn latch(latch: u16, state: &[u32], answer: &mut [u32]) -> u8 {
             latch,
             state.as_ptr(),
             state.len(),
+            answer.as_mut_ptr(),
+            answer.len(),
+        )
+    }
+}
+
+#[inline]
+pub fn shift(
+    settings: &[u32],
+    memory: &[u16],
+    soft: [u16; 2],
+    scroll: &mut [u32],
+    answer: &mut [u32],
+) -> u8 {
+    unsafe {
+        thagaduvin_shift(
+            settings.as_ptr(),
+            settings.len(),
+            memory.as_ptr(),
+            memory.len(),
+            soft[0],
+            soft[1],
+            scroll.as_mut_ptr(),
+            scroll.len(),
+            answer.as_mut_ptr(),
+            answer.len(),
+        )
+    }
+}
+
+#[inline]
+pub fn beside(
+    settings: &[u32],
+    memory: &[u16],
+    from: &Beside,
+    cells: &mut [u32],
+    answer: &mut [u32],
+) -> u8 {
+    unsafe {
+        thagaduvin_beside(
+            settings.as_ptr(),
+            settings.len(),
+            memory.as_ptr(),
+            memory.len(),
+            from.shift,
+            from.soft[0],
+            from.soft[1],
+            from.latch,
+            from.state.as_ptr(),
+            from.state.len(),
+            cells.as_mut_ptr(),
+            cells.len(),
             answer.as_mut_ptr(),
             answer.len(),
         )

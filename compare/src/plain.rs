@@ -2,6 +2,7 @@
 //! The tests hold the fast form in `rules` against it.
 
 use crate::rules::{Effect, Fields, Part, Refusal, Row, Settings, State, Window, CELLS};
+use crate::scroll::{Scroll, Shifted};
 
 pub struct Drawn {
     pub answer: Row,
@@ -210,20 +211,137 @@ impl Tape<'_> {
     }
 }
 
+impl<'a> Tape<'a> {
+    fn new(settings: &'a Settings, memory: &'a [u16], row: u32) -> Tape<'a> {
+        Tape {
+            settings,
+            memory,
+            row,
+            count: 0,
+            wraps: 0,
+            latch: 0,
+            latched: Vec::new(),
+            cells: vec![None; CELLS],
+            fill_code: 0,
+            fill_flag: false,
+        }
+    }
+
+    /// A main block that can be started from.
+    fn main_block(&mut self, top: &[u16; 2]) -> Result<Vec<u16>, Refusal> {
+        let Some(mut address) = self.pointer(top) else {
+            return refuse(6, 0, 0);
+        };
+        let main = self.words(&mut address, 7)?;
+        match main[4] / 0x1000 % 8 {
+            5 | 7 => refuse(14, 0, 0),
+            _ => Ok(main),
+        }
+    }
+
+    /// The scan lines of the first row of a main block's list.
+    fn first_lines(&mut self, main: &[u16]) -> Result<i32, Refusal> {
+        let mut lines = i32::from(main[6] % 32) + 1;
+        if let Some(mut at) = self.pointer(main) {
+            self.words(&mut at, 2)?;
+            let head = self.read(&mut at)?;
+            let redefinition = match head / 0x8000 {
+                1 => {
+                    let words = self.words(&mut at, 2)?;
+                    self.pointer(&words)
+                }
+                _ => None,
+            };
+            self.segments(&mut at, head % 16)?;
+            if let Some(mut at) = redefinition {
+                lines = i32::from(self.words(&mut at, 3)?[1] % 32) + 1;
+            }
+        }
+        Ok(lines)
+    }
+}
+
+/// 000's table of rates: scan lines, and the frames that they take.
+pub const RATES: [(i32, u32); 16] = [
+    (1, 1),
+    (2, 1),
+    (3, 1),
+    (4, 1),
+    (5, 1),
+    (6, 1),
+    (7, 1),
+    (8, 1),
+    (1, 1),
+    (1, 2),
+    (1, 3),
+    (1, 4),
+    (1, 5),
+    (1, 6),
+    (1, 7),
+    (1, 8),
+];
+
+/// A shift call's answer.
+pub fn shift(
+    settings: &Settings,
+    memory: &[u16],
+    soft: [u16; 2],
+    last: &Scroll,
+) -> Result<Shifted, Refusal> {
+    if !good(settings) {
+        return refuse(2, 0, 0);
+    }
+    let range = match last.direction {
+        0 => -31..=0,
+        1 => 0..=31,
+        _ => return refuse(3, 0, 0),
+    };
+    if !range.contains(&last.shift) || last.phase > 7 {
+        return refuse(3, 0, 0);
+    }
+    let mut tape = Tape::new(settings, memory, 0);
+    let hard = tape.main_block(&settings.top)?;
+    let mut given = Shifted {
+        scroll: *last,
+        top: settings.top,
+    };
+    let scroll = &mut given.scroll;
+    scroll.direction = u32::from(hard[4] / 0x2000 % 2);
+    let enabled = hard[4] / 0x4000 % 2 == 1;
+    if !enabled || scroll.direction != last.direction {
+        (scroll.shift, scroll.phase) = (0, 0);
+    }
+    if !enabled {
+        return Ok(given);
+    }
+    let sign = if scroll.direction == 1 { 1 } else { -1 };
+    let list = if sign == 1 {
+        hard.clone()
+    } else {
+        tape.main_block(&soft)?
+    };
+    let lines = tape.first_lines(&list)?;
+    let (step, frames) = RATES[usize::from(hard[4] / 0x100 % 16)];
+    scroll.phase += 1;
+    if scroll.phase >= frames {
+        scroll.shift += sign * step;
+        scroll.phase = 0;
+    }
+    if sign * scroll.shift >= lines {
+        (scroll.shift, scroll.phase) = (0, 0);
+        given.top = soft;
+    }
+    Ok(given)
+}
+
 /// A row call's answer with a buffer of the right size.
 pub fn row(settings: &Settings, memory: &[u16], state: &State) -> Result<Drawn, Refusal> {
     let now = &state.fields;
     let mut tape = Tape {
-        settings,
-        memory,
-        row: now.row,
-        count: 0,
-        wraps: 0,
         latch: state.latch,
-        latched: Vec::new(),
-        cells: vec![None; CELLS],
         fill_code: now.fill_code,
         fill_flag: now.fill_flag,
+        ..Tape::new(settings, memory, now.row)
     };
     if !good(settings) {
         return refuse(2, now.row, 0);

@@ -15,6 +15,10 @@ const BACKGROUND: u32 = 1 << 20;
 const WINDOW: u32 = 2 << 20;
 const CURSOR: u32 = 1 << 22;
 
+/// M4: soft scroll enabled, and of a window.
+pub(crate) const SCROLL: u16 = 0x4000;
+const SCROLL_WINDOW: u16 = 0x1000;
+
 #[derive(Clone, Copy, Debug, PartialEq, Eq)]
 pub enum Interlace {
     None,
@@ -231,17 +235,17 @@ pub fn sheet(settings: &Settings) -> Result<Sheet, Refusal> {
 
 /// Why a walk stops: a refusal's number and address. The caller knows the row.
 #[derive(Clone, Copy)]
-struct Stop {
+pub(crate) struct Stop {
     number: u8,
     address: u32,
 }
 
 impl Stop {
-    const fn bare(number: u8) -> Stop {
+    pub(crate) const fn bare(number: u8) -> Stop {
         Stop { number, address: 0 }
     }
 
-    fn at_row(self, row: u32) -> Refusal {
+    pub(crate) fn at_row(self, row: u32) -> Refusal {
         Refusal {
             number: self.number,
             row,
@@ -252,7 +256,7 @@ impl Stop {
 
 /// Reads words one after another. `rest` is what is left of the stretch of memory
 /// that can be read without wrapping; it ends at word number `end`.
-struct Reader<'m> {
+pub(crate) struct Reader<'m> {
     memory: &'m [u16],
     linear: bool,
     rest: &'m [u16],
@@ -265,7 +269,7 @@ struct Reader<'m> {
 
 impl<'m> Reader<'m> {
     #[inline]
-    fn open(memory: &'m [u16], linear: bool, address: u32) -> Reader<'m> {
+    pub(crate) fn open(memory: &'m [u16], linear: bool, address: u32) -> Reader<'m> {
         let mut reader = Reader {
             memory,
             linear,
@@ -343,7 +347,7 @@ impl<'m> Reader<'m> {
 
     /// The next words of a block.
     #[inline]
-    fn block<const N: usize>(&mut self) -> Result<[u16; N], Stop> {
+    pub(crate) fn block<const N: usize>(&mut self) -> Result<[u16; N], Stop> {
         if let Some((words, rest)) = self.rest.split_first_chunk::<N>() {
             self.rest = rest;
             return Ok(*words);
@@ -397,6 +401,19 @@ fn window_block(
     })
 }
 
+/// The main block at the top of a page, read and judged: 6, 7, 14.
+pub(crate) fn main_block(linear: bool, memory: &[u16], top: [u16; 2]) -> Result<[u16; 7], Stop> {
+    let top = pointer(linear, top[0], top[1]);
+    if top == 0 {
+        return Err(Stop::bare(6));
+    }
+    let main: [u16; 7] = Reader::open(memory, linear, top).block()?;
+    if main[4] & SCROLL != 0 && main[4] & SCROLL_WINDOW != 0 {
+        return Err(Stop::bare(14));
+    }
+    Ok(main)
+}
+
 /// Begins a frame from the latch that the one before handed on; the first after reset from 0.
 pub fn start(settings: &Settings, memory: &[u16], latch: u16) -> Result<Start, Refusal> {
     begin(settings, memory, latch).map_err(|stop| stop.at_row(0))
@@ -407,11 +424,7 @@ fn begin(settings: &Settings, memory: &[u16], latch: u16) -> Result<Start, Stop>
         return Err(Stop::bare(2));
     }
     let linear = settings.linear;
-    let top = pointer(linear, settings.top[0], settings.top[1]);
-    if top == 0 {
-        return Err(Stop::bare(6));
-    }
-    let main: [u16; 7] = Reader::open(memory, linear, top).block()?;
+    let main = main_block(linear, memory, settings.top)?;
     let tow = pointer(linear, settings.tow[0], settings.tow[1]);
     let window = match tow {
         0 => None,

@@ -263,6 +263,7 @@ pub fn all() -> Vec<Vector> {
     fills(&mut set);
     latches(&mut set);
     frames(&mut set);
+    scrolls(&mut set);
     set.0
 }
 
@@ -908,6 +909,34 @@ fn frames(set: &mut Set) {
     );
     set.sketch("null-first-row-link", "end rows 2 words 7", |s| {
         s.write(0x12, &[0x0001]).done()
+    });
+}
+
+/// Refusal 14: M4 with enable and window of soft scroll. A draw makes no shift call.
+fn scrolls(set: &mut Set) {
+    let fourteen = "refused 14 row 0 at 000000";
+    set.sketch("scroll-enable-and-window", fourteen, |s| {
+        s.write(0x18, &[0x5000]).done()
+    });
+    set.sketch("scroll-before-missing-window-block", fourteen, |s| {
+        s.tow = 0x7FFC;
+        s.write(0x18, &[0xFFFF]).done()
+    });
+    set.sketch(
+        "scroll-after-missing-main-block-part",
+        "refused 7 row 0 at 008000",
+        |s| {
+            s.top = [0, 0x7FF4];
+            s.write(0x7FFC, &[0x7000]).done()
+        },
+    );
+    set.sketch("scroll-enabled-draws-unshifted", "end rows 2 words", |s| {
+        s.row(0x100, 0x100, &[(0x200, 0, 2, 2)]).text(0x200, b"AB");
+        s.write(0x18, &[0xEFFF]).done()
+    });
+    set.sketch("scroll-window-without-enable", "end rows 2 words", |s| {
+        s.row(0x100, 0x100, &[(0x200, 0, 2, 2)]).text(0x200, b"AB");
+        s.write(0x18, &[0xBFFF]).done()
     });
 }
 

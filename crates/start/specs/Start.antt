@@ -1,36 +1,32 @@
 -- The start of a frame.
 use Prim.Native.Nat.{ℕ}
-use mathlib.Core.Bool.{Bool, not}
 use mathlib.Core.List.{List}
-use Rattle.memory.specs.declared.Pointer.{Pointer}
-use Rattle.memory.specs.Reading.{Reading, done, _>>=_, _>>_, check, Outcome, given, refused, refusal, run}
-use Rattle.memory.specs.Address.{pointer, null}
+use Rattle.memory.specs.Reading.{Reading, done, _>>=_, _>>_, Outcome, given, refused, refusal, run}
 use Rattle.settings.specs.declared.Settings.{Settings}
-use Rattle.settings.specs.declared.PointerWords.{PointerWords}
 use Rattle.settings.specs.Good.{checkSettings}
 use Rattle.settings.specs.Timing.{linesForRows}
 use Rattle.blocks.specs.declared.MainBlock.{MainBlock}
+use Rattle.blocks.specs.declared.RowFormat.{RowFormat}
 use Rattle.windows.specs.declared.WindowInHand.{WindowInHand}
-use Rattle.blocks.specs.Main.{mainBlockAt}
 use Rattle.windows.specs.Window.{firstWindow}
 use Rattle.state.specs.declared.Fields.{Fields}
 use Rattle.state.specs.declared.State.{State}
 use Rattle.start.specs.declared.StartAnswer.{StartAnswer}
 use Rattle.start.specs.declared.StartAnswer.the-variants.{Accepted, Refused}
 use Rattle.state.specs.State.{stateOf}
-
--- the pointer that a register holds in two words
-abbrev pub registered : Bool → PointerWords → Pointer
-registered linear w = pointer linear (w .first) (w .second)
+use Rattle.start.specs.Top.{registered, topBlock}
 
 -- "A frame starts with row attributes 0, M6's lines, CURS 0, CURE 31."
+abbrev pub firstFormat : ℕ → RowFormat
+firstFormat lines = record { lines = lines; attributes = 0; curs = 0; cure = 31 }
+
 unfoldable pub firstFields : Settings → MainBlock → WindowInHand → Fields
 firstFields σ m w = record {
   row = 0;
   left = linesForRows σ;
   cursor = m .cursor;
   fill = m .fill;
-  format = record { lines = m .lines; attributes = 0; curs = 0; cure = 31 };
+  format = firstFormat (m .lines);
   next = m .rows;
   window = w;
 }
@@ -41,12 +37,10 @@ windowStart latch σ m = do
   w ← firstWindow (σ .linear) (registered (σ .linear) (σ .tow))
   done (stateOf latch (firstFields σ m w))
 
--- ".. 6, 7 for the main block". Refusal 6: "TOP null (start)"
+-- ".. 6, 7 for the main block" and 14
 abbrev pub mainStart : ℕ → Settings → Reading State
 mainStart latch σ = do
-  let top = registered (σ .linear) (σ .top)
-  check 6 (not (null top))
-  m ← mainBlockAt (σ .linear) top
+  m ← topBlock (σ .linear) (σ .top)
   windowStart latch σ m
 
 -- "Start: 2, 6, 7 for the main block, then 7 and 8 for the first window."

@@ -1,6 +1,7 @@
 //! Each call made on both sides, compared and counted.
 
 use crate::lent::Lent;
+use compare::host::Beside;
 use compare::{host, library};
 use std::fmt::Debug;
 
@@ -10,7 +11,7 @@ pub struct Difference(pub String);
 pub type Checked<T> = Result<T, Difference>;
 
 /// The lines of the table.
-const LINES: [&str; 10] = [
+const LINES: [&str; 12] = [
     "sheet",
     "start",
     "row",
@@ -20,9 +21,11 @@ const LINES: [&str; 10] = [
     "join",
     "apply",
     "latch",
+    "shift",
+    "row beside the cut",
     "all",
 ];
-const STATUSES: usize = 15;
+const STATUSES: usize = 16;
 
 /// Calls by line and status; 255 is in the last place.
 #[derive(Default)]
@@ -33,6 +36,7 @@ pub struct Tally {
     /// Accepted starts from a latch that is not 0.
     latched: u64,
     pub in_turn: InTurn,
+    pub scrolls: Scrolls,
 }
 
 /// Counts of frames drawn in turn.
@@ -77,6 +81,65 @@ impl InTurn {
     }
 }
 
+/// Counts of shift calls and of rows beside the cut.
+#[derive(Default)]
+pub struct Scrolls {
+    calls: u64,
+    accepted: u64,
+    /// Accepted ones that give a shift up, and down.
+    shifted: [u64; 2],
+    /// Accepted ones that give another hard top.
+    ended: u64,
+    /// Accepted ones that turned from a shift that was not 0.
+    turned: u64,
+    /// Rows beside the cut, up and down, and those refused.
+    beside: [u64; 2],
+    refused: [u64; 2],
+    /// Calls without a row.
+    no_row: u64,
+}
+
+impl Scrolls {
+    /// A call that fits, with the scroll and top that it was given and, if accepted, those that it gave.
+    pub fn count(&mut self, last: &[u32], top: &[u32], given: Option<(&[u32], &[u32])>) {
+        self.calls += 1;
+        if let Some((scroll, hard)) = given {
+            self.accepted += 1;
+            self.ended += u64::from(hard != top);
+            self.turned += u64::from(last[0] != 0 && last[2] != scroll[2]);
+            if scroll[0] != 0 {
+                self.shifted[usize::from((scroll[0] as i32) < 0)] += 1;
+            }
+        }
+    }
+
+    fn count_beside(&mut self, shift: i32, status: u8) {
+        let way = usize::from(shift < 0);
+        match (shift, status) {
+            (_, host::UNFIT) => {}
+            (0, _) => self.no_row += 1,
+            (_, 0) => self.beside[way] += 1,
+            _ => self.refused[way] += 1,
+        }
+    }
+
+    fn print(&self) {
+        println!(
+            "{} shift calls: {} accepted, {} with a shift up, {} down; {} scrolls ended at another top, {} turned",
+            self.calls,
+            self.accepted,
+            self.shifted[0],
+            self.shifted[1],
+            self.ended,
+            self.turned
+        );
+        println!(
+            "rows beside the cut: up {}, refused {}; down {}, refused {}; {} calls without a row",
+            self.beside[0], self.refused[0], self.beside[1], self.refused[1], self.no_row
+        );
+    }
+}
+
 impl Tally {
     fn count(&mut self, line: usize, status: u32) {
         self.counts[line][(status as usize).min(STATUSES - 1)] += 1;
@@ -110,6 +173,7 @@ impl Tally {
             self.parted, self.latched
         );
         self.in_turn.print();
+        self.scrolls.print();
     }
 }
 
@@ -120,6 +184,7 @@ pub struct Calls {
     pub cells: Lent,
     pub answer: Lent,
     pub effect: Lent,
+    pub scroll: Lent,
 }
 
 /// Compares what a call left. `given` are its name and what it was given, for a difference.
@@ -144,6 +209,7 @@ impl Calls {
             cells: Lent::new("cells"),
             answer: Lent::new("answer"),
             effect: Lent::new("effect"),
+            scroll: Lent::new("scroll"),
         }
     }
 
@@ -258,5 +324,57 @@ impl Calls {
         ];
         self.tally.count_call(8, statuses[0]);
         compare(statuses, &[answer], &("latch", latch, state))
+    }
+
+    pub fn shift(
+        &mut self,
+        settings: &[u32],
+        memory: &[u16],
+        soft: [u16; 2],
+        last: &[u32],
+        answers: usize,
+    ) -> Checked<u8> {
+        let given = ("shift", settings, memory.len(), soft, last);
+        let (scroll, answer) = (&mut self.scroll, &mut self.answer);
+        scroll.put(last);
+        answer.mark(answers);
+        let statuses = [
+            host::shift(settings, memory, soft, scroll.ours(), answer.ours()),
+            library::shift(settings, memory, soft, scroll.theirs(), answer.theirs()),
+        ];
+        self.tally.count_call(9, statuses[0]);
+        if statuses[0] != host::UNFIT {
+            let given = (statuses[0] == 0).then(|| (&*scroll.ours(), &answer.ours()[2..]));
+            self.tally.scrolls.count(last, &settings[5..7], given);
+        }
+        compare(statuses, &[scroll, answer], &given)
+    }
+
+    pub fn beside(
+        &mut self,
+        settings: &[u32],
+        memory: &[u16],
+        from: &Beside,
+        cells: usize,
+        answers: usize,
+    ) -> Checked<u8> {
+        let given = ("beside", settings, memory.len(), from, cells, answers);
+        self.cells.mark(cells);
+        let (state, cells, answer) = (&mut self.state, &mut self.cells, &mut self.answer);
+        state.put(from.state);
+        answer.mark(answers);
+        let ours = Beside {
+            state: state.ours(),
+            ..*from
+        };
+        let ours = host::beside(settings, memory, &ours, cells.ours(), answer.ours());
+        let theirs = Beside {
+            state: state.theirs(),
+            ..*from
+        };
+        let theirs = library::beside(settings, memory, &theirs, cells.theirs(), answer.theirs());
+        self.tally.count_call(10, ours);
+        self.tally.scrolls.count_beside(from.shift, ours);
+        compare([ours, theirs], &[state, cells, answer], &given)
     }
 }

@@ -14,6 +14,8 @@ pub struct Frame {
     pub settings: [u32; SETTINGS],
     /// A state to begin with beside the start's.
     pub state: Option<[u32; STATE]>,
+    /// Tops of the page, for a soft scroll.
+    pub tops: Vec<[u16; 2]>,
     named: Settings,
     memory: Vec<u16>,
     words: usize,
@@ -61,6 +63,7 @@ impl Frame {
         Frame {
             settings: settings_numbers(&case.settings),
             state: case.state.as_ref().map(state_numbers),
+            tops: case.tops,
             named: case.settings,
             memory,
             words,

@@ -58,26 +58,33 @@ fn rows(
     Ok((End::Drawn, state))
 }
 
-/// A frame from a latch. Gives the latch that it hands on: of its last row where it was drawn to its
-/// last line, else the one that it was started with. The call says the same of its last state.
-fn frame(
+/// What a frame leaves: the latch that it hands on, and its last state, unless its start was refused.
+pub struct Ended {
+    pub latch: u16,
+    pub state: Option<[u32; STATE]>,
+}
+
+/// A frame from a latch. It hands on the latch of its last row where it was drawn to its last line,
+/// else the one that it was started with. The call says the same of its last state.
+pub fn frame(
     calls: &mut Calls,
     rng: &mut Rng,
     settings: &[u32; SETTINGS],
     memory: &[u16],
     latch: u16,
-) -> Checked<u16> {
+) -> Checked<Ended> {
+    let refused = Ended { latch, state: None };
     calls.sheet(settings, SHEET_ANSWER)?;
     let sheet: [u32; SHEET_ANSWER] = calls.answer.left();
     let status = calls.start(settings, memory, latch, STATE, START_ANSWER)?;
     if status == UNFIT {
-        return Ok(latch);
+        return Ok(refused);
     }
     if status != 0 {
         let all = &mut calls.tally.in_turn;
         all.count(latch, latch);
         all.refused_starts += 1;
-        return Ok(latch);
+        return Ok(refused);
     }
     let (end, state) = rows(calls, rng, settings, memory, sheet[7])?;
     let reached = state[0] as u16;
@@ -96,7 +103,10 @@ fn frame(
         End::Refused => all.refused_row(latch, reached),
         End::Left => all.left += 1,
     }
-    Ok(handed_on)
+    Ok(Ended {
+        latch: handed_on,
+        state: Some(state),
+    })
 }
 
 /// Frames in turn, from a latch: of the settings and memory of a frame, and seldom of such settings
@@ -112,7 +122,7 @@ pub fn frames(calls: &mut Calls, rng: &mut Rng, of: &Frame) -> Checked<()> {
         if rng.once_in(6) {
             memory = &memory[..rng.below(memory.len() + 1)];
         }
-        handed_on = frame(calls, rng, &settings, memory, handed_on)?;
+        handed_on = frame(calls, rng, &settings, memory, handed_on)?.latch;
     }
     Ok(())
 }

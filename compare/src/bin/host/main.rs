@@ -9,12 +9,13 @@ mod frame;
 mod in_turn;
 mod lent;
 mod odd;
+mod scroll;
 
 use calls::{Calls, Checked, Difference};
 use compare::generate::Rng;
 use compare::host::{
-    APPLY_ANSWER, EFFECT, EFFECT_MOST, LATCH_ANSWER, ROW_ANSWER, SETTINGS_MOST, SHEET_ANSWER,
-    START_ANSWER, STATE, STATE_MOST, UNFIT,
+    Beside, APPLY_ANSWER, EFFECT, EFFECT_MOST, LATCH_ANSWER, ROW_ANSWER, SCROLL, SETTINGS_MOST,
+    SHEET_ANSWER, SHIFT_ANSWER, START_ANSWER, STATE, STATE_MOST, UNFIT,
 };
 use compare::rules::CELLS;
 use frame::Frame;
@@ -217,7 +218,15 @@ fn unfit(calls: &mut Calls, rng: &mut Rng, frame: &Frame, real: &[u32; STATE]) -
     let bad_effect = odd::unfit(rng, &effect, &EFFECT_MOST);
     let cells = rng.pick(&[CELLS, CELLS, 0, 133]);
     let latch = rng.word();
-    let status = match rng.below(17) {
+    let soft = scroll::soft_top(rng, frame);
+    let last = odd::scroll(rng);
+    let beside = |shift, state| Beside {
+        shift,
+        soft,
+        latch,
+        state,
+    };
+    let status = match rng.below(24) {
         0 => calls.sheet(&bad_settings, SHEET_ANSWER),
         1 => calls.sheet(settings, odd::count(rng, SHEET_ANSWER)),
         2 => calls.start(&bad_settings, memory, latch, STATE, START_ANSWER),
@@ -246,7 +255,32 @@ fn unfit(calls: &mut Calls, rng: &mut Rng, frame: &Frame, real: &[u32; STATE]) -
         13 => calls.apply(&bad_effect, latch, APPLY_ANSWER),
         14 => calls.apply(&effect, latch, odd::count(rng, APPLY_ANSWER)),
         15 => calls.latch(latch, &bad_state, LATCH_ANSWER),
-        _ => calls.latch(latch, real, odd::count(rng, LATCH_ANSWER)),
+        16 => calls.latch(latch, real, odd::count(rng, LATCH_ANSWER)),
+        17 => calls.shift(&bad_settings, memory, soft, &last, SHIFT_ANSWER),
+        18 => {
+            let scroll = vec![0; odd::count(rng, SCROLL)];
+            calls.shift(settings, memory, soft, &scroll, SHIFT_ANSWER)
+        }
+        19 => {
+            let answers = odd::count(rng, SHIFT_ANSWER);
+            calls.shift(settings, memory, soft, &last, answers)
+        }
+        20 | 21 => {
+            let from = beside(odd::shift(rng), real);
+            calls.beside(&bad_settings, memory, &from, cells, ROW_ANSWER)
+        }
+        22 => {
+            let from = beside(odd::shift(rng), real);
+            let answers = odd::count(rng, ROW_ANSWER);
+            calls.beside(settings, memory, &from, cells, answers)
+        }
+        _ => {
+            let from = beside(
+                odd::shift(rng).unsigned_abs().clamp(1, 32) as i32,
+                &bad_state,
+            );
+            calls.beside(settings, memory, &from, cells, ROW_ANSWER)
+        }
     }?;
     let given = (bad_settings, bad_state, bad_effect);
     must(
@@ -273,10 +307,12 @@ fn compare(calls: &mut Calls, rng: &mut Rng, frame: &Frame) -> Checked<()> {
         real.push([0; STATE]);
     }
     in_turn::frames(calls, rng, frame)?;
+    scroll::frames(calls, rng, frame)?;
+    scroll::odd_rows(calls, rng, frame, &real)?;
     odd_settings(calls, rng, frame, &real)?;
     odd_states(calls, rng, frame, &real)?;
     odd_effects(calls, rng)?;
-    for _ in 0..6 {
+    for _ in 0..8 {
         unfit(calls, rng, frame, &rng.clone().pick(&real))?;
     }
     Ok(())

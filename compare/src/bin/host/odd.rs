@@ -1,8 +1,8 @@
-//! Settings changed at random, states that no start gives, effects of no row, and slices that do
-//! not fit.
+//! Settings changed at random, states that no start gives, effects of no row, scrolls of no frame, and
+//! slices that do not fit.
 
 use compare::generate::Rng;
-use compare::host::{EFFECT, EFFECT_MOST, SETTINGS, STATE, STATE_MOST};
+use compare::host::{EFFECT, EFFECT_MOST, SCROLL, SETTINGS, STATE, STATE_MOST};
 use compare::rules::CELLS;
 
 /// Numbers at the ends of ranges.
@@ -180,6 +180,29 @@ pub fn effect(rng: &mut Rng) -> [u32; EFFECT] {
         effect[rng.below(EFFECT)] = rng.pick(&ENDS);
     }
     effect
+}
+
+/// A shift: in range, at the ends of ranges, or any.
+pub fn shift(rng: &mut Rng) -> i32 {
+    match rng.below(4) {
+        0 => rng.range(0, 62) as i32 - 31,
+        1 => rng.pick(&[0, 31, 32, i32::MAX, -31, -32, -33, i32::MIN]),
+        2 => rng.draw() as i32,
+        _ => rng.pick(&[1, -1]),
+    }
+}
+
+/// A scroll that no shift call need give; half of them one that it can.
+pub fn scroll(rng: &mut Rng) -> [u32; SCROLL] {
+    if rng.once_in(2) {
+        let direction = rng.below(2);
+        let gone = rng.range(0, 31) as i32;
+        let shift = if direction == 1 { gone } else { -gone };
+        return [shift as u32, rng.below(8) as u32, direction as u32];
+    }
+    let phase = rng.pick(&[0, 7, 8, 255, 256, u32::MAX]);
+    let direction = rng.pick(&[0, 1, 0, 1, 2, 0x100, u32::MAX]);
+    [shift(rng) as u32, phase, direction]
 }
 
 /// A count other than the right one.

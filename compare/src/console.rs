@@ -1,0 +1,180 @@
+//! The calls of include/thagaduvin.h by this implementation, for a console in C. The header says what
+//! the slices are; a caller keeps to it, so each pointer with its count is a slice.
+
+use compare::host::{self, Beside};
+use std::slice::{from_raw_parts, from_raw_parts_mut};
+
+#[no_mangle]
+unsafe extern "C" fn thagaduvin_sheet(
+    settings: *const u32,
+    settings_count: usize,
+    answer: *mut u32,
+    answer_count: usize,
+) -> u8 {
+    host::sheet(
+        from_raw_parts(settings, settings_count),
+        from_raw_parts_mut(answer, answer_count),
+    )
+}
+
+#[no_mangle]
+unsafe extern "C" fn thagaduvin_start(
+    settings: *const u32,
+    settings_count: usize,
+    memory: *const u16,
+    memory_count: usize,
+    latch: u16,
+    state: *mut u32,
+    state_count: usize,
+    answer: *mut u32,
+    answer_count: usize,
+) -> u8 {
+    host::start(
+        from_raw_parts(settings, settings_count),
+        from_raw_parts(memory, memory_count),
+        latch,
+        from_raw_parts_mut(state, state_count),
+        from_raw_parts_mut(answer, answer_count),
+    )
+}
+
+#[no_mangle]
+unsafe extern "C" fn thagaduvin_row(
+    settings: *const u32,
+    settings_count: usize,
+    memory: *const u16,
+    memory_count: usize,
+    state: *mut u32,
+    state_count: usize,
+    cells: *mut u32,
+    cells_count: usize,
+    answer: *mut u32,
+    answer_count: usize,
+) -> u8 {
+    host::row(
+        from_raw_parts(settings, settings_count),
+        from_raw_parts(memory, memory_count),
+        from_raw_parts_mut(state, state_count),
+        from_raw_parts_mut(cells, cells_count),
+        from_raw_parts_mut(answer, answer_count),
+    )
+}
+
+#[no_mangle]
+unsafe extern "C" fn thagaduvin_effect(
+    settings: *const u32,
+    settings_count: usize,
+    memory: *const u16,
+    memory_count: usize,
+    state: *mut u32,
+    state_count: usize,
+    effect: *mut u32,
+    effect_count: usize,
+) -> u8 {
+    host::effect(
+        from_raw_parts(settings, settings_count),
+        from_raw_parts(memory, memory_count),
+        from_raw_parts_mut(state, state_count),
+        from_raw_parts_mut(effect, effect_count),
+    )
+}
+
+#[no_mangle]
+unsafe extern "C" fn thagaduvin_join(
+    first: *const u32,
+    first_count: usize,
+    second: *const u32,
+    second_count: usize,
+    joined: *mut u32,
+    joined_count: usize,
+) -> u8 {
+    host::join(
+        from_raw_parts(first, first_count),
+        from_raw_parts(second, second_count),
+        from_raw_parts_mut(joined, joined_count),
+    )
+}
+
+#[no_mangle]
+unsafe extern "C" fn thagaduvin_apply(
+    effect: *const u32,
+    effect_count: usize,
+    latch: u16,
+    answer: *mut u32,
+    answer_count: usize,
+) -> u8 {
+    host::apply(
+        from_raw_parts(effect, effect_count),
+        latch,
+        from_raw_parts_mut(answer, answer_count),
+    )
+}
+
+#[no_mangle]
+unsafe extern "C" fn thagaduvin_latch(
+    latch: u16,
+    state: *const u32,
+    state_count: usize,
+    answer: *mut u32,
+    answer_count: usize,
+) -> u8 {
+    host::latch(
+        latch,
+        from_raw_parts(state, state_count),
+        from_raw_parts_mut(answer, answer_count),
+    )
+}
+
+#[no_mangle]
+unsafe extern "C" fn thagaduvin_shift(
+    settings: *const u32,
+    settings_count: usize,
+    memory: *const u16,
+    memory_count: usize,
+    soft_first: u16,
+    soft_second: u16,
+    scroll: *mut u32,
+    scroll_count: usize,
+    answer: *mut u32,
+    answer_count: usize,
+) -> u8 {
+    host::shift(
+        from_raw_parts(settings, settings_count),
+        from_raw_parts(memory, memory_count),
+        [soft_first, soft_second],
+        from_raw_parts_mut(scroll, scroll_count),
+        from_raw_parts_mut(answer, answer_count),
+    )
+}
+
+#[no_mangle]
+unsafe extern "C" fn thagaduvin_beside(
+    settings: *const u32,
+    settings_count: usize,
+    memory: *const u16,
+    memory_count: usize,
+    shift: i32,
+    soft_first: u16,
+    soft_second: u16,
+    latch: u16,
+    state: *const u32,
+    state_count: usize,
+    cells: *mut u32,
+    cells_count: usize,
+    answer: *mut u32,
+    answer_count: usize,
+) -> u8 {
+    let from = Beside {
+        shift,
+        soft: [soft_first, soft_second],
+        latch,
+        state: from_raw_parts(state, state_count),
+    };
+    host::beside(
+        from_raw_parts(settings, settings_count),
+        from_raw_parts(memory, memory_count),
+        &from,
+        from_raw_parts_mut(cells, cells_count),
+        from_raw_parts_mut(answer, answer_count),
+    )
+}

@@ -1,0 +1,3 @@
+pub mod Rate
+pub mod Scroll
+pub mod Answers

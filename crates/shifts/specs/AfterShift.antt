@@ -1,0 +1,86 @@
+-- What a shift call and a row beside the cut leave in the slices of numbers that they were lent, and their status: 0 where the call is
+-- accepted, else the number of the refusal.
+use Prim.Native.Nat.{ℕ}
+use mathlib.Core.Bool.{false}
+use mathlib.Core.List.{List, [], _∷_}
+use lib.IntN.{ℤ, pos}
+use lib.Signed.{ltZ}
+use mir.Syntax.{w32}
+use mir.Val.{toZ, ofZ}
+use Rattle.memory.specs.Word.{if_then_else_, at}
+use Rattle.memory.specs.Address.{to}
+use Rattle.windows.specs.declared.WindowInHand.the-variants as InHand
+use Rattle.state.specs.declared.State.{State}
+use Rattle.scroll.specs.declared.Scroll.{Scroll}
+use Rattle.settings.specs.declared.PointerWords.{PointerWords}
+use Rattle.settings.specs.declared.Settings.{Settings}
+use Rattle.scroll.specs.declared.ShiftAnswer.{ShiftAnswer}
+use Rattle.scroll.specs.declared.ShiftAnswer.the-variants as Shift
+use Rattle.beside.specs.declared.BesideRow.{BesideRow}
+use Rattle.beside.specs.declared.BesideAnswer.{BesideAnswer}
+use Rattle.beside.specs.declared.BesideAnswer.the-variants as Beside
+use Rattle.beside.specs.Beside.{BesideCalled, besideCall}
+use Rattle.numbers.specs.declared.decode.StateIn.{StateIn}
+use Rattle.numbers.specs.declared.decode.StateIn.the-variants as State-in
+use Rattle.numbers.specs.Decode.{stateIn}
+use Rattle.answers.specs.AnswerNumbers.{withRefusal}
+use Rattle.answers.specs.AfterCall.{Stated, stated}
+
+-- a scroll as three numbers: the shift in two's complement (`ofZ` has the 32 bits of a signed number, `toZ` the number of 32 bits),
+-- the phase, the direction
+abbrev pub scrollNumbers : Scroll → List ℕ
+scrollNumbers s = ofZ w32 (s .shift) ∷ s .phase ∷ s .direction ∷ []
+
+abbrev pub scrollOf : List ℕ → Scroll
+scrollOf ns = record { shift = toZ w32 (at ns 0); phase = at ns 1; direction = at ns 2 }
+
+-- the answer of an accepted shift call: row and address 0, and the two words of the hard top
+abbrev pub topNumbers : PointerWords → List ℕ
+topNumbers t = 0 ∷ 0 ∷ t .first ∷ t .second ∷ []
+
+-- a shift call; a refused one leaves the scroll and the places of the hard top as they were
+abbrev pub afterShift : List ℕ → List ℕ → ShiftAnswer → Stated
+afterShift scroll answer (Shift.Accepted s) = stated 0 (scrollNumbers (s .scroll)) (topNumbers (s .top))
+afterShift scroll answer (Shift.Refused r) = stated (r .number) scroll (withRefusal r answer)
+
+-- the answer of a row beside the cut, as a row's; of none, zeros
+unfoldable pub besideNumbers : BesideRow → List ℕ
+besideNumbers d = d .number ∷ 0 ∷ d .lines ∷ d .format .attributes ∷ d .format .curs ∷ d .format .cure ∷ d .words ∷ []
+
+abbrev pub noRow : List ℕ
+noRow = 0 ∷ 0 ∷ 0 ∷ 0 ∷ 0 ∷ 0 ∷ 0 ∷ []
+
+-- a row beside the cut: a status, and what stands in the row buffer and in the answer
+abbrev pub besideAnswered : List ℕ → List ℕ → BesideAnswer → Stated
+besideAnswered cells answer Beside.Absent = stated 0 cells noRow
+besideAnswered cells answer (Beside.Drawn d) = stated 0 cells (besideNumbers d)
+besideAnswered cells answer (Beside.Refused r) = stated (r .number) cells (withRefusal r answer)
+
+abbrev pub afterBeside : List ℕ → BesideCalled → Stated
+afterBeside answer out = besideAnswered (out .buffer) answer (out .answer)
+
+-- the state of a call that looks at none
+abbrev pub noState : State
+noState = record {
+  latch = 0;
+  fields = record {
+    row = 0;
+    left = 0;
+    cursor = record { x = 0; y = 0 };
+    fill = record { code = 0; flag = false };
+    format = record { lines = 0; attributes = 0; curs = 0; cure = 0 };
+    next = to 0;
+    window = InHand.Absent;
+  };
+}
+
+-- The row beside the cut by the numbers of a state: "up, the one after the frame's last", so the state is looked at when the shift is
+-- positive, and else any will do. Status 255 where no field can have one of its numbers.
+abbrev pub belowState : Settings → List ℕ → ℤ → PointerWords → ℕ → List ℕ → List ℕ → StateIn → Stated
+belowState σ m shift soft latch cells answer (State-in.Fit s) = afterBeside answer (besideCall σ m shift soft latch s cells)
+belowState σ m shift soft latch cells answer State-in.Unfit = stated 255 cells answer
+
+unfoldable pub besideFrom : Settings → List ℕ → ℤ → PointerWords → ℕ → List ℕ → List ℕ → List ℕ → Stated
+besideFrom σ m shift soft latch state cells answer =
+    if ltZ (pos 0) shift then belowState σ m shift soft latch cells answer (stateIn state)
+    else afterBeside answer (besideCall σ m shift soft latch noState cells)
