@@ -8,7 +8,7 @@ returns : tie.Need-returns
 returns c = rw (c .if1 .taken) (omega arith)
 
 returns-2 : tie.Need-returns-2
-returns-2 c = rw (c .if1 .left)
+returns-2 c = rw (c .if1 .left) (omega arith)
 
 pub forward-spec : {M : Type 1} → statement M
 forward-spec =
