@@ -24,7 +24,7 @@ null p = eqb (p .address) 0
 abbrev pub isAddress : ℕ → Bool
 isAddress a = eqb (a % 2) 0 && ltb a 16777216
 
--- An address is a page and a place in it, "the second the place in the page": its low 16 bits, and what stands above them.
+-- An address is a page and a place in the page: the place is its low 16 bits, the page what stands above them.
 abbrev pub page : ℕ → ℕ
 page a = a / 65536
 
@@ -34,14 +34,15 @@ place a = a % 65536
 abbrev pub addressOf : ℕ → ℕ → ℕ
 addressOf page place = page * 65536 + place
 
--- Some bytes further the place wraps at the end of its page, from FFFE to 0, and carries 1 each time it does.
+-- Some bytes further, the place wraps at the end of its page, from FFFE to 0, and carries 1 each time it does.
 abbrev pub placeAfter : ℕ → ℕ → ℕ
 placeAfter bytes place = (place + bytes) % 65536
 
 abbrev pub carry : ℕ → ℕ → ℕ
 carry bytes place = (place + bytes) / 65536
 
--- "linear carries into the high byte, and from FFFFFE goes to 0 (ours); segmented wraps in its page": the page, from FF to 0, or as it is
+-- "linear carries into the high byte, and from FFFFFE goes to 0 (ours)": the page takes the carry, from FF to 0; "segmented wraps in its
+-- page": it stays.
 abbrev pub pageAfter : Bool → ℕ → ℕ → ℕ
 pageAfter true carried page = (page + carried) % 256
 pageAfter false carried page = page

@@ -196,18 +196,18 @@ fn has_room(i: usize, count: usize, end: usize) -> bool
     if i <= end { count <= end - i } else { false }
 }
 
-// The address some bytes further, as a page and a place: the place wraps at the end of its page. Linear, the sum carries into the
-// page, which has 8 bits; segmented, the page stays.
+// The address some bytes further, as a page and a place. Linear, the sum of both lets the place carry into the page, and wraps after
+// page FF; segmented, the place wraps and the page stays.
 fn forward(linear: bool, bytes: u32, a: u32) -> u32
     requires { ⌜ bytes < 16777216 ⌝ }
     ensures { λ r. ⌜ r ≡ forward linear bytes a ⌝ }
 {
     let page = a / 65536;
-    let place = a % 65536 + bytes;
+    let place = a % 65536;
     if linear {
-        (page % 256 * 65536 + place) % 16777216
+        (page % 256 * 65536 + place + bytes) % 16777216
     } else {
-        page * 65536 + place % 65536
+        page * 65536 + (place + bytes) % 65536
     }
 }
 

@@ -1,8 +1,7 @@
 -- No word further is the address itself; more of them are one move, of 2 bytes a word.
-use mathlib.Core.Path.{_≡_, ap, sym, _∙_}
-use Prim.Native.Nat.{ℕ, suc, _-_}
+use mathlib.Core.Path.{_≡_, sym, _∙_}
+use Prim.Native.Nat.{suc, _-_}
 use native.Mathlib.Omega.{arith}
-use Rattle.memory.specs.Address.{ahead}
 use Rattle.memory.proofs.WordLaws.{ahead-none}
 use Rattle.memory.proofs.RunLaws.{ahead-forward}
 use Rattle.memory.proofs.Step.{forward-cut}
