@@ -2,7 +2,7 @@
 use mathlib.Core.Path.{_≡_, refl, ap, sym, _∙_}
 use mathlib.Core.List.{List}
 use mathlib.Core.Bool.{Bool, true, false}
-use Prim.Native.Nat.{ℕ, zero, suc, _+_, _-_, _*_, _/_, _%_, _≤_, _<_}
+use Prim.Native.Nat.{ℕ, zero, suc, _+_, _-_, _*_, _/_, _≤_, _<_}
 use native.Mathlib.Omega.{arith}
 use native.Mathlib.Numerals.{add-one}
 use lib.ListN.{length, getD}
@@ -10,9 +10,10 @@ use lib.Dec.{leb}
 use borrow.Author.Tests.{leb-true, leb-false, le-leb, lt-leb, lt-ltb}
 use Rattle.memory.specs.declared.Fetch.the-variants.{Word}
 use Rattle.memory.specs.Reading.{fetch}
-use Rattle.memory.specs.Address.{nextWord, ahead}
+use Rattle.memory.specs.Address.{forward, nextWord, ahead}
 use Rattle.memory.specs.Answers.{isRun}
 use Rattle.memory.proofs.ReadBounds.{both}
+use Rattle.memory.proofs.Step.{forward-forward, forward-sum}
 
 -- whether k places from i on end by a place, without the sum
 pub ends-by : (i k end : ℕ) → i ≤ end → leb k (end - i) ≡ leb (i + k) end
@@ -22,16 +23,13 @@ ends-by i k end h = cases (leb k (end - i)) refl
     cases true e = e ∙ sym (le-leb (i + k) end (omega (arith, leb-true k (end - i) e)))
     cases false e = e ∙ sym (lt-leb (i + k) end (omega (arith, leb-false k (end - i) e)))
 
--- the address k words further
-pub ahead-linear : (k a : ℕ) → ahead true (suc k) a ≡ (a + 2 * suc k) % 16777216
+-- the address k words further: one move, 2 bytes a word
+pub ahead-forward : (l : Bool) (k a : ℕ) → ahead l (suc k) a ≡ forward l (2 * suc k) a
 unfolding ahead nextWord
-ahead-linear zero a = omega arith
-ahead-linear (suc k) a = ahead-linear k ((a + 2) % 16777216) ∙ omega arith
-
-pub ahead-paged : (k a : ℕ) → ahead false k a ≡ a / 65536 * 65536 + (a + 2 * k) % 65536
-unfolding ahead nextWord
-ahead-paged zero a = omega arith
-ahead-paged (suc k) a = ahead-paged k (a / 65536 * 65536 + (a + 2) % 65536) ∙ omega arith
+ahead-forward l zero a = refl
+ahead-forward l (suc k) a =
+    let sum : 2 + 2 * suc k ≡ 2 * suc (suc k) = omega arith in
+    ahead-forward l k (nextWord l a) ∙ forward-forward l 2 (2 * suc k) a ∙ ap (λ (n : ℕ). forward l n a) sum
 
 pub ahead-next : (l : Bool) (k a : ℕ) → nextWord l (ahead l k a) ≡ ahead l (suc k) a
 unfolding ahead
@@ -45,18 +43,13 @@ ahead-more l k a = ap (λ (i : ℕ). ahead l i a) (add-one k) ∙ sym (ahead-nex
 module _ (len a k : ℕ) where
   pub run-ends : (l : Bool) → isRun l len a k ≡ true → a / 2 + k ≤ len
   unfolding isRun
-  run-ends true h = leb-true _ _ (both (leb (a / 2 + k) len) _ h .0)
-  run-ends false h = leb-true _ _ (both (leb (a / 2 + k) len) _ h .0)
+  run-ends l h = leb-true _ _ (both (leb (a / 2 + k) len) _ h .0)
 
   pub run-ahead : (l : Bool) (j : ℕ) → isRun l len a k ≡ true → j < k → ahead l j a ≡ a + 2 * j
   unfolding isRun ahead
-  run-ahead true zero h i = omega arith
-  run-ahead true (suc j) h i =
-      let p = leb-true (a / 2 + k) 8388608 (both (leb (a / 2 + k) len) _ h .1) in
-      ahead-linear j a ∙ omega arith
-  run-ahead false j h i =
-      let p = leb-true (a / 2 % 32768 + k) 32768 (both (leb (a / 2 + k) len) _ h .1) in
-      ahead-paged j a ∙ omega arith
+  run-ahead l zero h i = omega arith
+  run-ahead l (suc j) h i =
+      ahead-forward l j a ∙ forward-sum l (suc j) k a (leb-true _ _ (both (leb (a / 2 + k) len) _ h .1)) i
 
 -- the words of a run are there
 pub run-fetch : (l : Bool) (m : List ℕ) (a k j : ℕ) → isRun l (length m) a k ≡ true → j < k

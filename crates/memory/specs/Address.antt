@@ -24,10 +24,35 @@ null p = eqb (p .address) 0
 abbrev pub isAddress : ℕ → Bool
 isAddress a = eqb (a % 2) 0 && ltb a 16777216
 
--- "The next word is 2 further: linear carries into the high byte, and from FFFFFE goes to 0 (ours); segmented wraps in its page."
+-- An address is a page and a place in the page: the place is its low 16 bits, the page what stands above them.
+abbrev pub page : ℕ → ℕ
+page a = a / 65536
+
+abbrev pub place : ℕ → ℕ
+place a = a % 65536
+
+abbrev pub addressOf : ℕ → ℕ → ℕ
+addressOf page place = page * 65536 + place
+
+-- Some bytes further, the place wraps at the end of its page, from FFFE to 0, and carries 1 each time it does.
+abbrev pub placeAfter : ℕ → ℕ → ℕ
+placeAfter bytes place = (place + bytes) % 65536
+
+abbrev pub carry : ℕ → ℕ → ℕ
+carry bytes place = (place + bytes) / 65536
+
+-- "linear carries into the high byte, and from FFFFFE goes to 0 (ours)": the page takes the carry, from FF to 0; "segmented wraps in its
+-- page": it stays.
+abbrev pub pageAfter : Bool → ℕ → ℕ → ℕ
+pageAfter true carried page = (page + carried) % 256
+pageAfter false carried page = page
+
+abbrev pub forward : Bool → ℕ → ℕ → ℕ
+forward linear bytes a = addressOf (pageAfter linear (carry bytes (place a)) (page a)) (placeAfter bytes (place a))
+
+-- "The next word is 2 further"
 unfoldable pub nextWord : Bool → ℕ → ℕ
-nextWord true a = (a + 2) % 16777216
-nextWord false a = a / 65536 * 65536 + (a + 2) % 65536
+nextWord linear a = forward linear 2 a
 
 -- the address k words further
 unfoldable pub ahead : Bool → ℕ → ℕ → ℕ

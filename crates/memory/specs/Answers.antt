@@ -1,5 +1,5 @@
 -- What the functions of this crate give, as what the rules give: no rules of their own.
-use Prim.Native.Nat.{ℕ, _+_, _/_, _%_}
+use Prim.Native.Nat.{ℕ, _+_, _*_, _/_}
 use mathlib.Core.Bool.{Bool, true, false, _&&_}
 use mathlib.Core.List.{List}
 use lib.ListN.{length}
@@ -7,11 +7,16 @@ use lib.Dec.{leb}
 use Rattle.memory.specs.declared.WordsRead.{WordsRead}
 use Rattle.memory.specs.declared.WordsRead.the-variants.{Whole, Refused}
 use Rattle.memory.specs.Reading.{Outcome, given, refused}
+use Rattle.memory.specs.Address.{page}
 
--- do the k words from a on stand one after the other in a memory of len words, with no wrap between them?
+-- the page at which addresses from a page on have wrapped: linear past FF, segmented past that one
+abbrev pub endPage : Bool → ℕ → ℕ
+endPage true page = 256
+endPage false page = page + 1
+
+-- do the k words from a on stand one after the other in a memory of len words, with no wrap between them? A page has 32768 words.
 unfoldable pub isRun : Bool → ℕ → ℕ → ℕ → Bool
-isRun true len a k = leb (a / 2 + k) len && leb (a / 2 + k) 8388608
-isRun false len a k = leb (a / 2 + k) len && leb (a / 2 % 32768 + k) 32768
+isRun linear len a k = leb (a / 2 + k) len && leb (a / 2 + k) (endPage linear (page a) * 32768)
 
 -- the answer of `read_words`, with the slice it leaves, as an outcome
 abbrev pub wordsRead : WordsRead → List ℕ → Outcome (List ℕ)

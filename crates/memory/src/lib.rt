@@ -1,12 +1,12 @@
 // Display memory: pointers, addresses, and the words that a host lends.
 ghost use mathlib.Core.Path.{_≡_};
-ghost use Prim.Native.Nat.{_+_};
+ghost use Prim.Native.Nat.{_+_, _<_};
 ghost use lib.ListN.{length};
 ghost use lib.Dec.{leb};
 ghost use Rattle.memory.specs.Word.{bit, high, low};
 ghost use Rattle.memory.specs.Reading.{fetch, fault, missing, refusal, run};
-ghost use Rattle.memory.specs.Address.{pointer, isAddress, nextWord, ahead, onward, further, words};
-ghost use Rattle.memory.specs.Answers.{isRun, wordsRead};
+ghost use Rattle.memory.specs.Address.{pointer, isAddress, forward, nextWord, ahead, onward, further, words};
+ghost use Rattle.memory.specs.Answers.{isRun, endPage, wordsRead};
 
 // A pointer in use: the address of the word that is due; a null pointer has 0.
 pub struct Pointer {
@@ -120,12 +120,7 @@ pub fn is_address(a: u32) -> bool
 pub fn next_word(linear: bool, a: u32) -> u32
     ensures { λ r. ⌜ r ≡ nextWord linear a ⌝ }
 {
-    if linear {
-        (a % 16777216 + 2) % 16777216
-    } else {
-        let page = a / 65536 * 65536;
-        page + (a % 65536 + 2) % 65536
-    }
+    forward(linear, 2, a)
 }
 
 // The address `count` words after `a`.
@@ -135,12 +130,7 @@ pub fn words_ahead(linear: bool, count: u32, a: u32) -> u32
     if count == 0 {
         return a;
     }
-    if linear {
-        (a % 16777216 + count % 8388608 * 2) % 16777216
-    } else {
-        let page = a / 65536 * 65536;
-        page + (a % 65536 + count % 32768 * 2) % 65536
-    }
+    forward(linear, count % 8388608 * 2, a)
 }
 
 // The pointer one word further.
@@ -166,11 +156,8 @@ pub fn is_run(mem: &[u16], linear: bool, a: u32, count: usize) -> bool
     ensures { λ r. ⌜ r ≡ isRun linear (length (now (mem .entry))) a count ⌝ }
 {
     let i = (a / 2) as usize;
-    if linear {
-        has_room(i, count, mem.len()) & has_room(i, count, 8388608)
-    } else {
-        has_room(i, count, mem.len()) & has_room(i % 32768, count, 32768)
-    }
+    let end = end_page(linear, a / 65536) * 32768;
+    has_room(i, count, mem.len()) & has_room(i, count, end)
 }
 
 // The word at the address `a`.
@@ -207,4 +194,26 @@ fn has_room(i: usize, count: usize, end: usize) -> bool
     ensures { λ r. ⌜ r ≡ leb (i + count) end ⌝ }
 {
     if i <= end { count <= end - i } else { false }
+}
+
+// The address some bytes further, as a page and a place. Linear, the sum of both lets the place carry into the page, and wraps after
+// page FF; segmented, the place wraps and the page stays.
+fn forward(linear: bool, bytes: u32, a: u32) -> u32
+    requires { ⌜ bytes < 16777216 ⌝ }
+    ensures { λ r. ⌜ r ≡ forward linear bytes a ⌝ }
+{
+    let page = a / 65536;
+    let place = a % 65536;
+    if linear {
+        (page % 256 * 65536 + place + bytes) % 16777216
+    } else {
+        page * 65536 + (place + bytes) % 65536
+    }
+}
+
+// The page at which addresses from a page on have wrapped.
+fn end_page(linear: bool, page: u32) -> usize
+    ensures { λ r. ⌜ r ≡ endPage linear page ⌝ }
+{
+    if linear { 256 } else { page as usize + 1 }
 }

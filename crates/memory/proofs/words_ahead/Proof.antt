@@ -1,8 +1,10 @@
+-- No word further is the address itself; more of them are one move, of 2 bytes a word.
 use mathlib.Core.Path.{_≡_, sym, _∙_}
 use Prim.Native.Nat.{suc, _-_}
 use native.Mathlib.Omega.{arith}
 use Rattle.memory.proofs.WordLaws.{ahead-none}
-use Rattle.memory.proofs.RunLaws.{ahead-linear, ahead-paged}
+use Rattle.memory.proofs.RunLaws.{ahead-forward}
+use Rattle.memory.proofs.Step.{forward-cut}
 use borrow.Author.Needs.{needs}
 use Rattle.memory.proofs.words_ahead.Statement.{statement}
 use Rattle.memory.proofs.words_ahead.Tie as tie
@@ -13,24 +15,9 @@ returns c = sym (ahead-none _ _ _ (c .if1 .taken))
 returns-2 : tie.Need-returns-2
 returns-2 c =
     let a = c .before .before .args in
-    let e : a .count ≡ suc (a .count - 1) = omega (arith, c .before .if1 .left) in
-    rw (c .if2 .taken, e) (sym (ahead-linear (a .count - 1) (a .a) ∙ omega arith))
-
-returns-3 : tie.Need-returns-3
-returns-3 c =
-    let a = c .before .before .args in
-    rw (c .if2 .left) (sym (ahead-paged (a .count) (a .a) ∙ omega arith))
+    let e : suc (a .count - 1) ≡ a .count = omega (arith, c .before .if1 .left) in
+    c .forward .ensures ∙ forward-cut (a .linear) (a .count) (a .a)
+    ∙ sym (rw e at (ahead-forward (a .linear) (a .count - 1) (a .a)))
 
 pub words-ahead-spec : {M : Type 1} → statement M
-words-ahead-spec =
-    tie.close
-    (tie.spec
-    returns
-    (λ c. search needs)
-    (λ c. search needs)
-    (λ c. search needs)
-    (λ c. search needs)
-    (λ c. search needs)
-    (λ c. search needs)
-    returns-2
-    returns-3)
+words-ahead-spec = tie.close (tie.spec returns (λ c. search needs) (λ c κs. search needs) returns-2)
