@@ -1,6 +1,6 @@
 -- Settings and a state, from numbers at their places.
 use Prim.Native.Nat.{ℕ}
-use mathlib.Core.Bool.{Bool}
+use mathlib.Core.Bool.{Bool, _&&_, not}
 use mathlib.Core.List.{List}
 use lib.Dec.{eqb}
 use Rattle.memory.specs.Word.{if_then_else_, at}
@@ -99,5 +99,9 @@ effectAt xs = record {
   set = partAt (at xs 5) (at xs 6) (at xs 7) (at xs 8) (at xs 9);
 }
 
+-- 02, of refusal 5: "withdrawn, its number unused"
+unfoldable pub effectInUse : List ℕ → EffectIn
+effectInUse xs = if not (eqb (at xs 0) 5) && not (eqb (at xs 5) 5) then Effect-in.Fit (effectAt xs) else Effect-in.Unfit
+
 unfoldable pub effectIn : List ℕ → EffectIn
-effectIn xs = if within effectLimits xs then Effect-in.Fit (effectAt xs) else Effect-in.Unfit
+effectIn xs = if within effectLimits xs then effectInUse xs else Effect-in.Unfit

@@ -17,7 +17,7 @@ use state::State;
 ghost use mathlib.Core.Path.{_≡_};
 ghost use Prim.Native.Nat.{_≤_};
 ghost use Rattle.numbers.specs.Places.{within, Within, settingsLimits, stateLimits, effectLimits};
-ghost use Rattle.numbers.specs.Decode.{interlaceOf, settingsAt, settingsIn, formatAt, windowAt, fieldsAt, stateAt, stateIn, partAt, effectAt, effectIn};
+ghost use Rattle.numbers.specs.Decode.{interlaceOf, settingsAt, settingsIn, formatAt, windowAt, fieldsAt, stateAt, stateIn, partAt, effectAt, effectInUse, effectIn};
 
 // Settings, or that the numbers are none: too few, too many, or one that no setting can have.
 pub enum SettingsIn {
@@ -111,7 +111,7 @@ pub fn effect_in(numbers: &[u32]) -> EffectIn
         65535, // word
     ];
     if within(&limits, numbers) {
-        EffectIn::Fit(effect_at(numbers))
+        effect_in_use(numbers)
     } else {
         EffectIn::Unfit
     }
@@ -263,6 +263,18 @@ fn part_at(number: u32, row: u32, address: u32, sets: u32, word: u32) -> Part
         Part::Set(word as u16)
     } else {
         Part::Keep
+    }
+}
+
+// An effect, unless a part has the number that is withdrawn.
+fn effect_in_use(n: &[u32]) -> EffectIn
+    requires { ⌜ Within effectLimits (now n) ⌝ }
+    ensures { λ r. ⌜ r ≡ effectInUse (now (n .entry)) ⌝ }
+{
+    if (n[0] != 5) & (n[5] != 5) {
+        EffectIn::Fit(effect_at(n))
+    } else {
+        EffectIn::Unfit
     }
 }
 

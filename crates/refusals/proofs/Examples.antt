@@ -1,7 +1,7 @@
 -- Each number of each call's list is answered: a computed example for one after the other.
 use Prim.Native.Nat.{ℕ}
 use mathlib.Core.Path.{_≡_, refl}
-use mathlib.Core.Bool.{Bool, true, false}
+use mathlib.Core.Bool.{true, false}
 use mathlib.Core.List.{List, [], _∷_, _++_}
 use lib.ListN.{replicate}
 use Rattle.memory.specs.Reading.{_>>=_, each, runFrom}
@@ -9,22 +9,20 @@ use Rattle.memory.specs.Address.{to, pointer, nextWord, ahead, words}
 use Rattle.settings.specs.declared.Interlace.the-variants.{Progressive}
 use Rattle.settings.specs.declared.Settings.{Settings}
 use Rattle.settings.specs.Good.{good, checkSettings}
-use Rattle.settings.specs.Timing.{linesForRows}
 use Rattle.settings.specs.Sheet.{sheetCall}
 use Rattle.blocks.specs.declared.WindowInHand.{WindowInHand}
 use Rattle.blocks.specs.declared.WindowInHand.the-variants.{Absent, Present}
 use Rattle.blocks.specs.Main.{mainBlock, mainBlockAt}
-use Rattle.blocks.specs.RowBlock.{segmentOf, segmentsOf, restOfBlock, blockAt, rowBlockAt, windowRowAt, formatOf, redefined}
+use Rattle.blocks.specs.RowBlock.{segmentOf, segmentsOf, restOfBlock, blockAt, rowBlockAt, windowRowAt, redefined}
 use Rattle.blocks.specs.Window as W
 use Rattle.state.specs.declared.Fields.{Fields}
 use Rattle.state.specs.State as S
-use Rattle.layout.specs.Layout.{width, total, allFit, boundary, edgesFit, covered, onSide, segmentsOn}
+use Rattle.layout.specs.Layout.{width, total, allFit, boundary, edgesFit}
 use Rattle.layout.specs.Overlay.{windowRow, overlaid}
 use Rattle.plan.specs.Plan.{nextFields, backgroundBlock, backgroundRow, plan}
-use Rattle.codes.specs.Attribute.{invokes, sourceNumber, cell}
-use Rattle.codes.specs.Codes.{taking, put, character, examine, wordCodes, codes}
-use Rattle.cells.specs.Cells.{filled, fillByWord, fillTo, segment, segmentsTo, rowCells}
-use Rattle.row.specs.Row.{row, withCursor, rowCall}
+use Rattle.codes.specs.Codes.{codes}
+use Rattle.cells.specs.Cells.{fillByWord, fillTo, segment, segmentsTo, rowCells}
+use Rattle.row.specs.Row.{row, rowCall}
 use Rattle.start.specs.Start.{firstFields, windowStart, startFrom, startCall}
 use Rattle.effect.specs.Effect.{outcomeFor, effectCall}
 use Rattle.refusals.specs.Refusals.{sheetNumbers, startNumbers, effectNumbers, rowNumbers, ofSheet, ofStart, ofRow, ofPart, has}

@@ -1,5 +1,5 @@
 -- Readings that refuse with the numbers of a list only: one law for each way to make a reading of others.
-use mathlib.Core.Path.{_≡_, refl, sym, _∙_}
+use mathlib.Core.Path.{_≡_, refl}
 use mathlib.Core.Bool.{Bool, true, false}
 use mathlib.Core.List.{List, [], _∷_}
 use Prim.Native.Nat.{ℕ, zero, suc, _+_, _/_}
@@ -32,12 +32,6 @@ pub check-then : {B : Type 0} {ns : List ℕ} (n : ℕ) (b : Bool) {k : Unit {0}
 unfolding _>>=_
 check-then n true h f = f tt refl
 check-then n false h f = refuses h
-
--- a check that is always met
-pub check-met : {B : Type 0} {ns : List ℕ} (n : ℕ) (b : Bool) {k : Unit {0} → Reading B} → b ≡ true → ((u : Unit {0}) → Refuses ns (k u))
-    → Refuses ns (check n b >>= k)
-unfolding _>>=_
-check-met n b e f = rw e (f tt)
 
 pub if-refuses : {A : Type 0} {ns : List ℕ} (b : Bool) {p q : Reading A} → Refuses ns p → Refuses ns q → Refuses ns (if b then p else q)
 if-refuses {ns} b h k = if-cases (Refuses ns) b (λ _. h) (λ _. k)

@@ -2,22 +2,20 @@
 use mathlib.Core.Path.{_≡_, refl, sym, _∙_}
 use mathlib.Core.Bool.{Bool, true, false, _&&_, _||_, not}
 use mathlib.Core.List.{List, [], _∷_, _++_}
-use Prim.Native.Nat.{ℕ, zero, suc, _+_, _-_, _<_, _≤_}
+use Prim.Native.Nat.{ℕ, zero, suc, _+_, _-_}
 use native.Mathlib.Omega.{arith}
-use lib.ListN.{length, take}
+use lib.ListN.{length}
 use lib.Dec.{ltb, leb, eqb}
-use borrow.Author.Tests.{ltb-true, lt-ltb, ne-eqb}
+use borrow.Author.Tests.{ne-eqb}
 use Rattle.memory.specs.declared.Pointer.{Pointer}
-use Rattle.memory.specs.Word.{if_then_else_, bit, high, low, at}
-use Rattle.memory.specs.Reading.{Reading, done, refuse, word, _>>=_, each, Outcome, given, refused, run}
-use Rattle.memory.specs.Address.{null, onward, further}
+use Rattle.memory.specs.Reading.{_>>=_, Outcome}
+use Rattle.memory.specs.Address.{null, onward}
 use Rattle.memory.proofs.ReadBounds.{if-cases, both}
 use Rattle.settings.specs.declared.Settings.{Settings}
 use Rattle.settings.specs.Good.{good, checkSettings}
 use Rattle.settings.specs.declared.SheetAnswer.{SheetAnswer}
 use Rattle.settings.specs.Sheet.{sheetCall}
 use Rattle.blocks.specs.declared.FillMode.{FillMode}
-use Rattle.blocks.specs.declared.MainBlock.{MainBlock}
 use Rattle.blocks.specs.declared.RowFormat.{RowFormat}
 use Rattle.blocks.specs.declared.Segment.{Segment}
 use Rattle.blocks.specs.declared.WindowInHand.{WindowInHand}
@@ -28,23 +26,22 @@ use Rattle.blocks.specs.Window.{inOrder, windowOf, windowAt, firstWindow, dueWi
 use Rattle.state.specs.declared.Fields.{Fields}
 use Rattle.state.specs.declared.State.{State}
 use Rattle.state.specs.State.{stateOf, inRange}
-use Rattle.state.proofs.StateLaws.{lines-within}
 use Rattle.layout.specs.Layout.{total, allFit, Overlay, none, over, edgesFit, segmentsOn}
-use Rattle.layout.specs.declared.Side.the-variants.{Before, After}
+use Rattle.layout.specs.declared.Side.the-variants.{Before}
 use Rattle.layout.specs.Overlay.{windowRow, overlaid}
 use Rattle.plan.specs.Plan.{backgroundBlock, backgroundRow, plan}
 use Rattle.codes.specs.declared.CodeSettings.{CodeSettings}
 use Rattle.codes.specs.declared.Source.{Source}
 use Rattle.codes.specs.declared.Source.the-variants.{Background, Window}
 use Rattle.codes.specs.Attribute.{invokes, latches}
-use Rattle.codes.specs.Codes.{Drawing, listAt, withList, examine, wordCodes, codes}
-use Rattle.cells.specs.Cells.{codeCount, fillByWord, fillTo, segment, segmentsTo, rowCells}
+use Rattle.codes.specs.Codes.{Drawing, examine, wordCodes, codes}
+use Rattle.cells.specs.Cells.{fillByWord, fillTo, segment, segmentsTo, rowCells}
 use Rattle.row.specs.Row.{Row, Called, row, answered, rowCall}
 use Rattle.start.specs.Start.{registered, windowStart, startFrom, started, startCall}
 use Rattle.effect.specs.declared.Part.{Part}
 use Rattle.effect.specs.Effect.{partOf, latchWith, outcomeFor, effectCall}
 use Rattle.refusals.specs.Refusals.{sheetNumbers, startNumbers, effectNumbers, rowNumbers, ofSheet, ofStart, ofRow, ofPart, ofEffect, has, within}
-use Rattle.refusals.proofs.Refuses.{Refuses, dones, refuses, asks, bind, check-then, check-met, if-refuses, each-refuses, words-refuse, Told, given-told, refused-told, run-told}
+use Rattle.refusals.proofs.Refuses.{Refuses, dones, refuses, asks, bind, check-then, if-refuses, each-refuses, words-refuse, Told, given-told, refused-told, run-told}
 
 -- blocks
 module _ {ns : List ℕ} where
@@ -102,17 +99,12 @@ background-refuses σ f =
     check-then 9 (allFit (g .block .segments)) refl λ _ _.
     check-then 10 (leb (total (σ .hidden) (g .block .segments)) 132) refl λ _ _. dones
 
--- a state in range with a line left is below row 4095
-pub below-4095 : (f : Fields) → inRange f ≡ true → ltb 0 (f .left) ≡ true → f .row < 4095
-below-4095 f h l = omega (arith, lines-within f h, ltb-true 0 (f .left) l)
-
 plan-refuses : (σ : Settings) (f : Fields) → Refuses effectNumbers (plan σ f)
 unfolding plan checkSettings
 plan-refuses σ f =
     check-then 2 (good σ) refl λ _ _.
-    check-then 3 (inRange f) refl λ _ h.
-    check-then 4 (ltb 0 (f .left)) refl λ _ l.
-    check-met 5 (ltb (f .row) 4095) (lt-ltb (f .row) 4095 (below-4095 f h l)) λ _.
+    check-then 3 (inRange f) refl λ _ _.
+    check-then 4 (ltb 0 (f .left)) refl λ _ _.
     bind (due-refuses refl (σ .linear) (f .row) (f .window)) λ w.
     bind (background-refuses σ f) λ g.
     bind (overlaid-refuses σ (f .row) w) λ o.
