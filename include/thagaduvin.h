@@ -3,7 +3,7 @@
  * A slice is a pointer and its count of elements, one argument after the other. No pointer is null, also where the count is 0. A
  * slice that a call writes (not const) overlaps no other slice of that call.
  *
- * Every call gives a status: 0, accepted; 1 to 14, the number of the refusal; 255, a slice has not the count that its table says, or
+ * Every call gives a status: 0, accepted; 1 to 14 but 5, the number of the refusal; 255, a slice has not the count that its table says, or
  * a number that its place cannot have. A 255 writes nothing. A refusal writes the row and the address into the answer and nothing
  * else: state, scroll and cells stay as they were. The count of cells is judged by refusal 1, not by 255. */
 #ifndef THAGADUVIN_H
@@ -112,7 +112,7 @@ enum { THAGADUVIN_CELLS = 132 };
  * where the number of its refusal is not 0; else it sets the latch or keeps it. What a part does not use is written as 0. Ten zeros
  * are the empty effect. */
 enum {
-    THAGADUVIN_PART_REFUSAL,   /* number of its refusal, 0 to 13 */
+    THAGADUVIN_PART_REFUSAL,   /* number of its refusal, 0 to 13 but 5 */
     THAGADUVIN_PART_ROW,       /* the refusal's row, 0 to 65535 */
     THAGADUVIN_PART_ADDRESS,   /* the refusal's address, any number */
     THAGADUVIN_PART_SET,       /* 1 it sets the latch, 0 it keeps it */

@@ -120,7 +120,8 @@ fn part_of(n: &[u32]) -> Part {
 #[inline]
 fn effect_of(numbers: &[u32]) -> Option<Effect> {
     let n = within(numbers, &EFFECT_MOST)?;
-    Some(Effect {
+    // 5 is no refusal's number.
+    (n[0] != 5 && n[5] != 5).then(|| Effect {
         clear: part_of(&n[..5]),
         set: part_of(&n[5..]),
     })

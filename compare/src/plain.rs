@@ -352,9 +352,6 @@ pub fn row(settings: &Settings, memory: &[u16], state: &State) -> Result<Drawn, 
     if now.lines_left == 0 {
         return refuse(4, now.row, 0);
     }
-    if now.row >= 4095 {
-        return refuse(5, now.row, 0);
-    }
     let mut next = *now;
     if let Some(window) = now.window {
         if now.row > window.last_row {

@@ -625,9 +625,6 @@ fn prepare<'a>(
     if fields.lines_left == 0 {
         return Err(Stop::bare(4));
     }
-    if fields.row >= 4095 {
-        return Err(Stop::bare(5));
-    }
     let linear = settings.linear;
     let [spare_back, spare_over] = spare;
     let next = &mut plan.next;

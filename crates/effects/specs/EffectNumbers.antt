@@ -1,5 +1,6 @@
 -- An effect as numbers at their places, and from them.
 use Prim.Native.Nat.{ℕ}
+use mathlib.Core.Bool.{not, _&&_}
 use mathlib.Core.List.{List, [], _∷_}
 use lib.Dec.{eqb}
 use Rattle.memory.specs.Word.{if_then_else_, at}
@@ -28,8 +29,12 @@ effectAt xs = record {
   set = partAt (at xs 5) (at xs 6) (at xs 7) (at xs 8) (at xs 9);
 }
 
+-- 02, of refusal 5: "withdrawn, its number unused"
+unfoldable pub effectInUse : List ℕ → EffectIn
+effectInUse xs = if not (eqb (at xs 0) 5) && not (eqb (at xs 5) 5) then Fit (effectAt xs) else Unfit
+
 unfoldable pub effectIn : List ℕ → EffectIn
-effectIn xs = if within effectLimits xs then Fit (effectAt xs) else Unfit
+effectIn xs = if within effectLimits xs then effectInUse xs else Unfit
 
 -- a part's numbers
 abbrev pub partNumbers : Part → PartNumbers

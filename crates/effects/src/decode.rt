@@ -6,7 +6,7 @@ use numbers::decode;
 ghost use mathlib.Core.Path.{_≡_};
 ghost use Prim.Native.Nat.{_≤_};
 ghost use Rattle.numbers.specs.Places.{Within};
-ghost use Rattle.effects.specs.EffectNumbers.{effectLimits, partAt, effectAt, effectIn};
+ghost use Rattle.effects.specs.EffectNumbers.{effectLimits, partAt, effectAt, effectInUse, effectIn};
 
 // An effect, or that the numbers are none.
 pub enum EffectIn {
@@ -30,7 +30,7 @@ pub fn effect_in(numbers: &[u32]) -> EffectIn
         65535, // word
     ];
     if decode::within(&limits, numbers) {
-        EffectIn::Fit(effect_at(numbers))
+        effect_in_use(numbers)
     } else {
         EffectIn::Unfit
     }
@@ -51,6 +51,18 @@ fn part_at(number: u32, row: u32, address: u32, sets: u32, word: u32) -> Part
         Part::Set(word as u16)
     } else {
         Part::Keep
+    }
+}
+
+// An effect, unless a part has the number that is withdrawn.
+fn effect_in_use(n: &[u32]) -> EffectIn
+    requires { ⌜ Within effectLimits (now n) ⌝ }
+    ensures { λ r. ⌜ r ≡ effectInUse (now (n .entry)) ⌝ }
+{
+    if (n[0] != 5) & (n[5] != 5) {
+        EffectIn::Fit(effect_at(n))
+    } else {
+        EffectIn::Unfit
     }
 }
 

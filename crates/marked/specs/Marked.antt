@@ -280,6 +280,8 @@ tests =
     ∷ same (shown (oddRow 1 4094 Absent buffer)) (4094 ∷ 1 ∷ 0x3FF ∷ 0 ∷ 31 ∷ 12 ∷ 0x100241 ∷ 0x100242 ∷ 0x100281 ∷ replicate 129 0x220)
     ∷ same (nextShown (oddRow 1 4094 Absent buffer)) (0 ∷ [])
     ∷ same (shown (oddRow 1 4095 Absent buffer)) (3 ∷ 4095 ∷ 0 ∷ [])
+    -- .. and with no line left there it is 4, as anywhere: 02 has withdrawn 5
+    ∷ same (shown (oddRow 0 4095 Absent buffer)) (4 ∷ 4095 ∷ 0 ∷ [])
     -- a row buffer of 131 cells
     ∷ same (shown (oddRow 8 0 Absent (replicate 131 0))) (1 ∷ 0 ∷ 0 ∷ [])
     ∷ []

@@ -34,7 +34,6 @@ plan-reads σ f =
     bind {n = 0} {k = 167} (omega arith) (check-reads 2 (good σ)) λ _ _.
     bind {n = 0} {k = 167} (omega arith) (check-reads 3 (inRange f)) λ _ h₃.
     bind {n = 0} {k = 167} (omega arith) (check-reads 4 (ltb 0 (f .left))) λ _ h₄.
-    bind {n = 0} {k = 167} (omega arith) (check-reads 5 (ltb (f .row) 4095)) λ _ _.
     bind {n = 6} {k = 161} (omega arith) (due-reads (σ .linear) (f .row) (f .window) (placed f h₃)) λ w hw.
     bind {n = 83} {k = 78} (omega arith) (background-reads σ f) λ g hg.
     bind {n = 78} {k = 0} (omega arith) (overlaid-reads σ (f .row) w hw) λ o ho.

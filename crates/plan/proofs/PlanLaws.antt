@@ -66,7 +66,7 @@ module _ (m : List ℕ) (σ : Settings) (f : Fields) where
               reads-given 0 m b (overlaid-reads σ (f .row) w (due .1)) u .0,
             )
 
--- check 2, and checks 3 to 5
+-- check 2, and checks 3 and 4
 module _ (m : List ℕ) (σ : Settings) (f : Fields) where
   pub settings-refused : {x : Fault} → run m (checkSettings σ) ≡ refused x → run m (plan σ f) ≡ refused x
   unfolding plan
@@ -85,11 +85,5 @@ module _ (m : List ℕ) (σ : Settings) (f : Fields) where
         check-passed 0 m 3 (inRange f) _ s ∙ check-failed 0 m 4 (ltb 0 (f .left)) _ (le-ltb 0 (f .left) (omega arith))
 
     module _ (l : 0 < f .left) where
-      state-checked : run m (fromState σ f) ≡ run m (check 5 (ltb (f .row) 4095) >> fromBlocks σ f)
-      state-checked = check-passed 0 m 3 (inRange f) _ s ∙ check-passed 0 m 4 (ltb 0 (f .left)) _ (lt-ltb 0 (f .left) l)
-
-      pub row-high : 4095 ≤ f .row → run m (fromState σ f) ≡ refused (fault 5)
-      row-high h = state-checked ∙ check-failed 0 m 5 (ltb (f .row) 4095) _ (le-ltb (f .row) 4095 h)
-
-      pub all-checked : f .row < 4095 → run m (fromState σ f) ≡ run m (fromBlocks σ f)
-      all-checked h = state-checked ∙ check-passed 0 m 5 (ltb (f .row) 4095) _ (lt-ltb (f .row) 4095 h)
+      pub all-checked : run m (fromState σ f) ≡ run m (fromBlocks σ f)
+      all-checked = check-passed 0 m 3 (inRange f) _ s ∙ check-passed 0 m 4 (ltb 0 (f .left)) _ (lt-ltb 0 (f .left) l)

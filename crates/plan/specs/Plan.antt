@@ -1,4 +1,4 @@
--- What a row is drawn from, before any cell: checks 2 to 5, a due window, the row block and its redefinition, 9, 10, the window
+-- What a row is drawn from, before any cell: checks 2 to 4, a due window, the row block and its redefinition, 9, 10, the window
 -- row block, 9, 11, and 12. It asks for no latch.
 use Prim.Native.Nat.{ℕ, _+_, _-_, min}
 use mathlib.Core.List.{List}
@@ -59,12 +59,11 @@ fromBlocks σ f = do
   check 12 (edgesFit (σ .hidden) (o .overlay) (g .block .segments))
   done (planned f g o)
 
--- "Row: 1 to 5; .." Refusal 3: "state out of range"; 4: "no lines left"; 5: "row number 4095 or more"
+-- "Row: 1 to 5; .." without 5, "withdrawn, its number unused" (02). Refusal 3: "state out of range"; 4: "no lines left"
 abbrev pub fromState : Settings → Fields → Reading Plan
 fromState σ f = do
   check 3 (inRange f)
   check 4 (ltb 0 (f .left))
-  check 5 (ltb (f .row) 4095)
   fromBlocks σ f
 
 -- check 2 comes before them; check 1, on the row buffer, is the row call's

@@ -51,7 +51,7 @@ pub fn plan_row(
     }
 }
 
-// The plan of a row whose settings are checked: checks 3 to 5 on the state.
+// The plan of a row whose settings are checked: checks 3 and 4 on the state.
 fn plan_state(
     mem: &[u16],
     settings: Settings,
@@ -66,9 +66,6 @@ fn plan_state(
     }
     if fields.left == 0 {
         return refused(4);
-    }
-    if 4095 <= fields.row {
-        return refused(5);
     }
     plan_blocks(mem, settings, fields, back, over)
 }

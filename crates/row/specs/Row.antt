@@ -40,7 +40,7 @@ fromPlan σ fill latch p = do
   d ← rowCells (codeSettings σ) fill (p .overlay) (p .segments) (blank latch)
   done (drawnBy p d)
 
--- "Row: 1 to 5; .. 12; then cells as met (7, 13)." Check 1, on the row buffer, is the row call's.
+-- "Row: 1 to 5; .. 12; then cells as met (7, 13)", 5 withdrawn. Check 1, on the row buffer, is the row call's.
 unfoldable pub row : Settings → State → Reading Row
 row σ s = do
   p ← plan σ (s .fields)

@@ -1,7 +1,9 @@
--- What a state in range tells: its window is in order, its lines are within 4095, and a row has a scan line.
+-- What a state in range tells: its window is in order, its lines are within 4095, its row below 4095 where a line is left, and a row has
+-- a scan line.
 use mathlib.Core.Path.{_≡_}
 use mathlib.Core.Bool.{true, _&&_}
-use Prim.Native.Nat.{_+_, _≤_}
+use Prim.Native.Nat.{_+_, _≤_, _<_}
+use native.Mathlib.Omega.{arith}
 use lib.Dec.{leb}
 use borrow.Author.Tests.{leb-true}
 use Rattle.memory.proofs.ReadBounds.{both}
@@ -32,6 +34,10 @@ unfolding inRange
 lines-within f h =
     let formatted = both _ (isAddress (f .next .address)) (both _ (windowInRange (f .window)) h .0) .0 in
     leb-true (f .row + f .left) 4095 (both (leb (f .row + f .left) 4095) (formatInRange (f .format)) formatted .0)
+
+-- a state in range with a line left is below row 4095: what refusal 5 asked before 02 withdrew it
+pub row-below : (f : Fields) → inRange f ≡ true → 0 < f .left → f .row < 4095
+row-below f h l = omega (arith, lines-within f h)
 
 -- a state in range has a scan line to a row at least
 pub has-line : (f : Fields) → inRange f ≡ true → 1 ≤ f .format .lines

@@ -1,8 +1,9 @@
--- Each check of the code is the rule's, in its order; past them the blocks follow.
+-- Each check of the code is the rule's, in its order; past them the row is below 4095, and the blocks follow.
 use mathlib.Core.Path.{sym, _∙_}
 use native.Mathlib.Omega.{arith}
 use borrow.Author.Tests.{not-true, not-false}
-use Rattle.plan.proofs.PlanLaws.{state-out, no-lines, row-high, all-checked}
+use Rattle.state.proofs.StateLaws.{row-below}
+use Rattle.plan.proofs.PlanLaws.{state-out, no-lines, all-checked}
 use borrow.Author.Needs.{needs}
 use Rattle.plan.proofs.plan_state.Statement.{statement}
 use Rattle.plan.proofs.plan_state.Tie as tie
@@ -17,18 +18,15 @@ returns-2 c =
     let s = sym (c .before .before .before .before .in-range .ensures) ∙ not-false _ (c .before .before .before .if1 .left) in
     rw (c .refused2 .ensures) (sym (no-lines _ _ _ s (c .before .if2 .taken)))
 
+plan-blocks-requires : tie.Need-plan-blocks-requires
+plan-blocks-requires c κs =
+    let s = sym (c .before .before .before .before .before .in-range .ensures) ∙ not-false _ (c .before .before .before .before .if1 .left) in
+    (s, row-below _ s (omega arith))
+
 returns-3 : tie.Need-returns-3
 returns-3 c =
     let s = sym (c .before .before .before .before .before .before .in-range .ensures) ∙ not-false _ (c .before .before .before .before .before .if1 .left) in
-    rw (c .refused3 .ensures) (sym (row-high _ _ _ s (omega arith) (c .before .if3 .taken)))
-
-plan-blocks-requires : tie.Need-plan-blocks-requires
-plan-blocks-requires c κs = (sym (c .before .before .before .before .before .before .before .in-range .ensures) ∙ not-false _ (c .before .before .before .before .before .before .if1 .left), c .before .before .if3 .left)
-
-returns-4 : tie.Need-returns-4
-returns-4 c =
-    let s = sym (c .before .before .before .before .before .before .before .before .in-range .ensures) ∙ not-false _ (c .before .before .before .before .before .before .before .if1 .left) in
-    c .plan-blocks .ensures ∙ sym (all-checked _ _ _ s (omega arith) (c .before .before .before .if3 .left))
+    c .plan-blocks .ensures ∙ sym (all-checked _ _ _ s (omega arith))
 
 pub plan-state-spec : {M : Type 1} → statement M
 plan-state-spec =
@@ -39,7 +37,5 @@ plan-state-spec =
     returns
     (λ c κs. search needs)
     returns-2
-    (λ c κs. search needs)
-    returns-3
     plan-blocks-requires
-    returns-4)
+    returns-3)

@@ -1,0 +1,61 @@
+-- Readings that refuse with the numbers of a list only: one law for each way to make a reading of others.
+use mathlib.Core.Path.{_≡_, refl}
+use mathlib.Core.Bool.{Bool, true, false}
+use mathlib.Core.List.{List, [], _∷_}
+use Prim.Native.Nat.{ℕ, zero, suc, _+_, _/_}
+use lib.ListN.{length, getD}
+use lib.Dec.{ltb}
+use Rattle.memory.specs.declared.Fault.{Fault}
+use Rattle.memory.specs.declared.Pointer.{Pointer}
+use Rattle.memory.specs.Word.{if_then_else_}
+use Rattle.memory.specs.Reading.{Ask, Reading, done, refuse, ask, _>>=_, check, each, Outcome, given, refused, runFrom}
+use Rattle.memory.specs.Address.{onward, words}
+use Rattle.memory.proofs.ReadBounds.{if-cases}
+use Rattle.refusals.specs.Refusals.{has}
+
+-- whatever the words are, its refusal has a number of the list
+pub data Refuses {A : Type 0} (ns : List ℕ) : Reading A → Type 0 where
+  dones : {a : A} → Refuses ns (done a)
+  refuses : {x : Fault} → has (x .number) ns ≡ true → Refuses ns (refuse x)
+  asks : {q : Ask} {f : ℕ → Reading A} → ((w : ℕ) → Refuses ns (f w)) → Refuses ns (ask q f)
+
+-- one reading after another
+pub bind : {A B : Type 0} {ns : List ℕ} {p : Reading A} {k : A → Reading B} → Refuses ns p → ((a : A) → Refuses ns (k a)) → Refuses ns (p >>= k)
+unfolding _>>=_
+bind (dones {a}) f = f a
+bind (refuses h) f = refuses h
+bind (asks g) f = asks (λ w. bind (g w) f)
+
+-- a check and what comes after it, which knows that the check was met
+pub check-then : {B : Type 0} {ns : List ℕ} (n : ℕ) (b : Bool) {k : Unit {0} → Reading B} → has n ns ≡ true
+    → ((u : Unit {0}) → b ≡ true → Refuses ns (k u)) → Refuses ns (check n b >>= k)
+unfolding _>>=_
+check-then n true h f = f tt refl
+check-then n false h f = refuses h
+
+pub if-refuses : {A : Type 0} {ns : List ℕ} (b : Bool) {p q : Reading A} → Refuses ns p → Refuses ns q → Refuses ns (if b then p else q)
+if-refuses {ns} b h k = if-cases (Refuses ns) b (λ _. h) (λ _. k)
+
+pub each-refuses : {A B : Type 0} {ns : List ℕ} {f : A → B → Reading B} → ((x : A) (b : B) → Refuses ns (f x b)) → (xs : List A) (b : B)
+    → Refuses ns (each f xs b)
+unfolding each
+each-refuses g [] b = dones
+each-refuses g (x ∷ xs) b = bind (g x b) (each-refuses g xs)
+
+-- words one after the other: none of its own
+pub words-refuse : {ns : List ℕ} (linear : Bool) (k : ℕ) (p : Pointer) → Refuses ns (words linear k p)
+unfolding words _>>=_
+words-refuse linear zero p = dones
+words-refuse linear (suc k) p = asks λ w. bind (words-refuse linear k (onward linear p)) λ ws. dones
+
+-- what such a reading comes to: a missing word adds 7
+pub data Told {A : Type 0} (ns : List ℕ) : Outcome A → Type 0 where
+  given-told : {k : ℕ} {a : A} → Told ns (given k a)
+  refused-told : {x : Fault} → has (x .number) ns ≡ true → Told ns (refused x)
+
+pub run-told : {A : Type 0} {ns : List ℕ} → has 7 ns ≡ true → (w : ℕ) (m : List ℕ) {p : Reading A} → Refuses ns p → Told ns (runFrom w m p)
+unfolding runFrom
+run-told h w m dones = given-told
+run-told h w m (refuses e) = refused-told e
+run-told {ns} h w m (asks {q} g) =
+    if-cases (Told ns) (ltb (q .address / 2) (length m)) (λ _. run-told h (w + 1) m (g (getD m (q .address / 2) 0))) (λ _. refused-told h)

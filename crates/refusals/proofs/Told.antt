@@ -1,0 +1,254 @@
+-- Each call answers with the numbers of its list and no other, whatever the settings, the memory, the state, the latch and the row buffer.
+use mathlib.Core.Path.{_≡_, refl, sym, _∙_}
+use mathlib.Core.Bool.{Bool, true, false, _&&_, _||_, not}
+use mathlib.Core.List.{List, [], _∷_, _++_}
+use Prim.Native.Nat.{ℕ, zero, suc, _+_, _-_}
+use native.Mathlib.Omega.{arith}
+use lib.ListN.{length}
+use lib.Dec.{ltb, leb, eqb}
+use borrow.Author.Tests.{ne-eqb}
+use Rattle.memory.specs.declared.Pointer.{Pointer}
+use Rattle.memory.specs.Reading.{_>>=_, Outcome}
+use Rattle.memory.specs.Address.{null, onward}
+use Rattle.memory.proofs.ReadBounds.{if-cases, both}
+use Rattle.settings.specs.declared.PointerWords.{PointerWords}
+use Rattle.settings.specs.declared.Settings.{Settings}
+use Rattle.settings.specs.Good.{good, checkSettings}
+use Rattle.settings.specs.declared.SheetAnswer.{SheetAnswer}
+use Rattle.settings.specs.Sheet.{sheetCall}
+use Rattle.blocks.specs.declared.FillMode.{FillMode}
+use Rattle.blocks.specs.declared.MainBlock.{MainBlock}
+use Rattle.blocks.specs.declared.RowFormat.{RowFormat}
+use Rattle.blocks.specs.declared.Segment.{Segment}
+use Rattle.windows.specs.declared.WindowInHand.{WindowInHand}
+use Rattle.windows.specs.declared.WindowInHand.the-variants.{Absent, Present}
+use Rattle.blocks.specs.Main.{mainBlockAt}
+use Rattle.blocks.specs.RowBlock.{restOfBlock, blockAt, rowBlockAt, windowRowAt, redefined}
+use Rattle.windows.specs.Window.{inOrder, windowOf, windowAt, firstWindow, dueWindow}
+use Rattle.state.specs.declared.Fields.{Fields}
+use Rattle.state.specs.declared.State.{State}
+use Rattle.state.specs.State.{stateOf, inRange}
+use Rattle.layout.specs.Layout.{total, allFit, Overlay, none, over, edgesFit, segmentsOn}
+use Rattle.layout.specs.declared.Side.the-variants.{Before}
+use Rattle.layout.specs.Overlay.{windowRow, overlaid}
+use Rattle.background.specs.Background.{backgroundBlock, backgroundRow}
+use Rattle.plan.specs.Plan.{plan}
+use Rattle.codes.specs.declared.CodeSettings.{CodeSettings}
+use Rattle.codes.specs.declared.Source.{Source}
+use Rattle.codes.specs.declared.Source.the-variants.{Background, Window}
+use Rattle.codes.specs.Attribute.{invokes, latches}
+use Rattle.codes.specs.Codes.{Drawing, examine, wordCodes, codes}
+use Rattle.cells.specs.Cells.{fillByWord, fillTo, segment, segmentsTo, rowCells}
+use Rattle.row.specs.Row.{Row, Called, row, answered, rowCall}
+use Rattle.start.specs.Top.{registered, enabled, upward, ofWindow, topBlock}
+use Rattle.start.specs.Start.{windowStart, startFrom, started, startCall}
+use Rattle.scroll.specs.declared.FrameShift.{FrameShift}
+use Rattle.scroll.specs.declared.Scroll.{Scroll}
+use Rattle.scroll.specs.Scroll as Shift
+use Rattle.joining.specs.declared.Part.{Part}
+use Rattle.effect.specs.Effect.{partOf, latchWith, outcomeFor, effectCall}
+use Rattle.refusals.specs.Refusals.{sheetNumbers, startNumbers, shiftNumbers, effectNumbers, rowNumbers, ofSheet, ofStart, ofShift, ofRow, ofPart, ofEffect, has, within}
+use Rattle.refusals.proofs.Refuses.{Refuses, dones, refuses, asks, bind, check-then, if-refuses, each-refuses, words-refuse, Told, given-told, refused-told, run-told}
+
+-- blocks
+module _ {ns : List ℕ} where
+  main-refuses : (linear : Bool) (p : Pointer) → Refuses ns (mainBlockAt linear p)
+  unfolding mainBlockAt
+  main-refuses linear p = bind (words-refuse linear 7 p) λ b. dones
+
+  block-refuses : (linear redefines : Bool) (p : Pointer) → Refuses ns (blockAt linear redefines p)
+  unfolding blockAt restOfBlock
+  block-refuses linear redefines p =
+      if-refuses (null p) dones
+      (bind (words-refuse linear 3 p) λ head.
+      bind (words-refuse linear _ _) λ re.
+      bind (words-refuse linear _ _) λ gs. dones)
+
+  redefined-refuses : (linear : Bool) (p : Pointer) (t : RowFormat) → Refuses ns (redefined linear p t)
+  unfolding redefined
+  redefined-refuses linear p t = if-refuses (null p) dones (bind (words-refuse linear 3 p) λ b. dones)
+
+  window-refuses : has 8 ns ≡ true → (linear : Bool) (least : ℕ) (p : Pointer) → Refuses ns (windowAt linear least p)
+  unfolding windowAt
+  window-refuses h linear least p =
+      if-refuses (null p) dones (bind (words-refuse linear 6 p) λ b.
+      check-then 8 (inOrder (windowOf linear b .block) && leb least (windowOf linear b .block .top)) h λ _ _. dones)
+
+  due-refuses : has 8 ns ≡ true → (linear : Bool) (row : ℕ) (w : WindowInHand) → Refuses ns (dueWindow linear row w)
+  unfolding dueWindow
+  due-refuses h linear row Absent = dones
+  due-refuses h linear row (Present w) = if-refuses (ltb (w .block .bottom) row) (window-refuses h linear _ _) dones
+
+  -- the main block of a top register
+  top-refuses : has 6 ns ≡ true → has 14 ns ≡ true → (linear : Bool) (top : PointerWords) → Refuses ns (topBlock linear top)
+  unfolding topBlock
+  top-refuses h k linear top =
+      check-then 6 (not (null (registered linear top))) h λ _ _.
+      bind (main-refuses linear _) λ m. check-then 14 (not (enabled m && ofWindow m)) k λ _ _. dones
+
+-- a start
+start-refuses : (latch : ℕ) (σ : Settings) → Refuses startNumbers (startFrom latch σ)
+unfolding startFrom checkSettings windowStart firstWindow
+start-refuses latch σ =
+    check-then 2 (good σ) refl λ _ _.
+    bind (top-refuses refl refl (σ .linear) (σ .top)) λ m.
+    bind (window-refuses refl (σ .linear) 0 _) λ w. dones
+
+-- a shift call
+lines-refuse : (linear : Bool) (m : MainBlock) → Refuses shiftNumbers (Shift.firstLines linear m)
+unfolding Shift.firstLines backgroundBlock rowBlockAt
+lines-refuse linear m = bind (bind (block-refuses linear true _) λ b. bind (redefined-refuses linear _ _) λ t. dones) λ g. dones
+
+shift-refuses : (σ : Settings) (soft : PointerWords) (last : Scroll) → Refuses shiftNumbers (Shift.shift σ soft last)
+unfolding Shift.shift checkSettings Shift.shiftBy Shift.edgeLines
+shift-refuses σ soft last =
+    check-then 2 (good σ) refl λ _ _.
+    check-then 3 (Shift.inRange last) refl λ _ _.
+    bind (top-refuses refl refl (σ .linear) (σ .top)) λ hard.
+    if-refuses (enabled hard)
+    (bind
+    (if-refuses (upward hard) (lines-refuse (σ .linear) hard) (bind (top-refuses refl refl (σ .linear) soft) (lines-refuse (σ .linear)))) λ n. dones)
+    dones
+
+-- a row's plan
+overlaid-refuses : (σ : Settings) (row : ℕ) (w : WindowInHand) → Refuses effectNumbers (overlaid σ row w)
+unfolding overlaid windowRow windowRowAt
+overlaid-refuses σ row Absent = dones
+overlaid-refuses σ row (Present w) =
+    if-refuses (leb (w .block .top) row && leb row (w .block .bottom))
+    (bind (block-refuses (σ .linear) false (w .rows)) λ b.
+    check-then 9 (allFit (b .segments)) refl λ _ _.
+    check-then 11 (leb (total (σ .hidden) (b .segments)) (w .block .right + 1 - w .block .left)) refl λ _ _. dones)
+    dones
+
+background-refuses : (σ : Settings) (f : Fields) → Refuses effectNumbers (backgroundRow σ f)
+unfolding backgroundRow backgroundBlock rowBlockAt
+background-refuses σ f =
+    bind (bind (block-refuses (σ .linear) true (f .next)) λ b. bind (redefined-refuses (σ .linear) (b .redefinition) (f .format)) λ t. dones) λ g.
+    check-then 9 (allFit (g .block .segments)) refl λ _ _.
+    check-then 10 (leb (total (σ .hidden) (g .block .segments)) 132) refl λ _ _. dones
+
+plan-refuses : (σ : Settings) (f : Fields) → Refuses effectNumbers (plan σ f)
+unfolding plan checkSettings
+plan-refuses σ f =
+    check-then 2 (good σ) refl λ _ _.
+    check-then 3 (inRange f) refl λ _ _.
+    check-then 4 (ltb 0 (f .left)) refl λ _ _.
+    bind (due-refuses refl (σ .linear) (f .row) (f .window)) λ w.
+    bind (background-refuses σ f) λ g.
+    bind (overlaid-refuses σ (f .row) w) λ o.
+    check-then 12 (edgesFit (σ .hidden) (o .overlay) (g .block .segments)) refl λ _ _. dones
+
+-- its cells
+module _ (σ : CodeSettings) where
+  examine-refuses : {ns : List ℕ} (source : Source) (end code : ℕ) (d : Drawing) → Refuses ns (examine σ source end code d)
+  unfolding examine _>>=_
+  examine-refuses source end code d = if-refuses (invokes (σ .flag) code && d .pen .list .present) (asks λ w. dones) dones
+
+  word-refuses : {ns : List ℕ} (source : Source) (end n w : ℕ) (d : Drawing) → Refuses ns (wordCodes σ source end n w d)
+  unfolding wordCodes
+  word-refuses source end n w d = each-refuses (examine-refuses source end) _ d
+
+  codes-refuse : {ns : List ℕ} (source : Source) (end n : ℕ) (p : Pointer) (d : Drawing) → Refuses ns (codes σ source end n p d)
+  unfolding codes _>>=_
+  codes-refuse source end zero p d = dones
+  codes-refuse source end (suc zero) p d = asks λ w. word-refuses source end 1 w d
+  codes-refuse source end (suc (suc n)) p d = asks λ w. bind (word-refuses source end 2 w d) λ d₁. codes-refuse source end n (onward (σ .linear) p) d₁
+
+  module _ (fill : FillMode) where
+    fill-refuses : (end : ℕ) (d : Drawing) → Refuses effectNumbers (fillTo σ fill end d)
+    unfolding fillTo fillByWord _>>=_
+    fill-refuses end d =
+        if-refuses (ltb (d .pen .column) end)
+        (if-refuses (fill .flag && d .pen .list .present) (asks λ w. if-refuses (latches w) dones (refuses refl)) dones) dones
+
+    segments-refuse : (source : Source) (gs : List Segment) (end : ℕ) (d : Drawing) → Refuses effectNumbers (segmentsTo σ fill source gs end d)
+    unfolding segmentsTo segment
+    segments-refuse source gs end d =
+        bind (each-refuses (λ g b. bind (codes-refuse source _ _ _ _) (fill-refuses _)) gs d) (fill-refuses end)
+
+    cells-refuse : (o : Overlay) (gs : List Segment) (d : Drawing) → Refuses effectNumbers (rowCells σ fill o gs d)
+    unfolding rowCells
+    cells-refuse none gs d = segments-refuse Background gs 132 d
+    cells-refuse (over first end ws) gs d =
+        bind (segments-refuse Background (segmentsOn (Before first) (σ .hidden) 0 gs) first d) λ d₁.
+        bind (segments-refuse Window ws end _) λ d₂. segments-refuse Background _ 132 _
+
+row-refuses : (σ : Settings) (s : State) → Refuses effectNumbers (row σ s)
+unfolding row
+row-refuses σ s = bind (plan-refuses σ (s .fields)) λ p. bind (cells-refuse _ (s .fields .fill) (p .overlay) (p .segments) _) λ d. dones
+
+-- what the calls answer
+one-told : (ns : List ℕ) (n : ℕ) → has n ns ≡ true → within (n ∷ []) ns ≡ true
+one-told ns n h = rw h
+
+pub sheet-told : (σ : Settings) → within (ofSheet (sheetCall σ)) sheetNumbers ≡ true
+unfolding sheetCall
+sheet-told σ = if-cases (λ (a : SheetAnswer). within (ofSheet a) sheetNumbers ≡ true) (good σ) (λ _. refl) (λ _. refl)
+
+pub start-told : (latch : ℕ) (σ : Settings) (m : List ℕ) → within (ofStart (startCall latch σ m)) startNumbers ≡ true
+unfolding startCall
+start-told latch σ m = by (run-told refl 0 m (start-refuses latch σ))
+  where
+    by : {o : Outcome State} → Told startNumbers o → within (ofStart (started o)) startNumbers ≡ true
+    by given-told = refl
+    by (refused-told {x} h) = one-told startNumbers (x .number) h
+
+pub shift-told : (σ : Settings) (m : List ℕ) (soft : PointerWords) (last : Scroll) → within (ofShift (Shift.shiftCall σ m soft last)) shiftNumbers ≡ true
+unfolding Shift.shiftCall
+shift-told σ m soft last = by (run-told refl 0 m (shift-refuses σ soft last))
+  where
+    by : {o : Outcome FrameShift} → Told shiftNumbers o → within (ofShift (Shift.shiftAnswered o)) shiftNumbers ≡ true
+    by given-told = refl
+    by (refused-told {x} h) = one-told shiftNumbers (x .number) h
+
+-- one more number in front of a list
+more-told : (k : ℕ) (ns : List ℕ) (n : ℕ) → has n ns ≡ true → has n (k ∷ ns) ≡ true
+more-told k ns n h = rw h (or-true (eqb n k))
+  where
+    or-true : (b : Bool) → b || true ≡ true
+    or-true true = refl
+    or-true false = refl
+
+pub row-told : (σ : Settings) (m : List ℕ) (s : State) (buffer : List ℕ) → within (ofRow (rowCall σ m s buffer .answer)) rowNumbers ≡ true
+unfolding rowCall
+row-told σ m s buffer =
+    if-cases (λ (c : Called). within (ofRow (c .answer)) rowNumbers ≡ true) (eqb (length buffer) 132)
+    (λ _. by (run-told refl 0 m (row-refuses σ s))) (λ _. refl)
+  where
+    by : {o : Outcome Row} → Told effectNumbers o → within (ofRow (answered σ (s .fields) buffer o .answer)) rowNumbers ≡ true
+    by given-told = refl
+    by (refused-told {x} h) = one-told rowNumbers (x .number) (more-told 1 effectNumbers (x .number) h)
+
+pub effect-told : (σ : Settings) (m : List ℕ) (f : Fields) → within (ofEffect (effectCall σ m f)) effectNumbers ≡ true
+unfolding effectCall outcomeFor
+effect-told σ m f = two-told (ofPart (partOf f (outcomeFor σ m f false))) _ (by false) (by true)
+  where
+    part : {o : Outcome Row} → Told effectNumbers o → within (ofPart (partOf f o)) effectNumbers ≡ true
+    part (given-told {a = r}) = if-cases (λ (t : Part). within (ofPart t) effectNumbers ≡ true) (r .drawing .pen .latched) (λ _. refl) (λ _. refl)
+    part (refused-told {x} h) = one-told effectNumbers (x .number) h
+
+    by : (ignore : Bool) → within (ofPart (partOf f (outcomeFor σ m f ignore))) effectNumbers ≡ true
+    by ignore = part (run-told refl 0 m (row-refuses σ (stateOf (latchWith ignore) f)))
+
+    two-told : (xs ys : List ℕ) → within xs effectNumbers ≡ true → within ys effectNumbers ≡ true → within (xs ++ ys) effectNumbers ≡ true
+    two-told [] ys h k = k
+    two-told (x ∷ xs) ys h k = let e = both (has x effectNumbers) (within xs effectNumbers) h in rw (e .0) (two-told xs ys (e .1) k)
+
+-- a number that is not in the list is not in the answer
+not-told : (n : ℕ) (ns xs : List ℕ) → has n ns ≡ false → within xs ns ≡ true → has n xs ≡ false
+not-told n ns [] h k = refl
+not-told n ns (x ∷ xs) h k =
+    let e = both (has x ns) (within xs ns) k in
+    rw (ne-eqb n x (λ (q : n ≡ x). let z : true ≡ false = sym (e .0) ∙ rw (← q) h in absurd (apart z))) (not-told n ns xs h (e .1))
+  where
+    apart : true ≡ false → ⊥
+    apart z = let q : _≡_ {A = ℕ} 0 1 = cc in omega arith
+
+-- 02: "no call can reach refusal 5"
+pub no-5 : (σ : Settings) (m : List ℕ) (s : State) (buffer : List ℕ)
+    → (has 5 (ofRow (rowCall σ m s buffer .answer)) ≡ false) × (has 5 (ofEffect (effectCall σ m (s .fields))) ≡ false)
+no-5 σ m s buffer = (
+  not-told 5 rowNumbers (ofRow (rowCall σ m s buffer .answer)) refl (row-told σ m s buffer),
+  not-told 5 effectNumbers (ofEffect (effectCall σ m (s .fields))) refl (effect-told σ m (s .fields)),
+)

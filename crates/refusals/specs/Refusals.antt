@@ -1,0 +1,71 @@
+-- Document 01, "What a refused call says", and 02: the numbers that each call can answer with. "5 withdrawn, its number unused".
+use Prim.Native.Nat.{ℕ}
+use mathlib.Core.Bool.{Bool, true, false, _&&_, _||_}
+use mathlib.Core.List.{List, [], _∷_, _++_}
+use lib.Dec.{eqb}
+use Rattle.settings.specs.declared.SheetAnswer.{SheetAnswer}
+use Rattle.settings.specs.declared.SheetAnswer.the-variants as Sheet
+use Rattle.start.specs.declared.StartAnswer.{StartAnswer}
+use Rattle.start.specs.declared.StartAnswer.the-variants as Start
+use Rattle.row.specs.declared.RowAnswer.{RowAnswer}
+use Rattle.row.specs.declared.RowAnswer.the-variants as Row
+use Rattle.scroll.specs.declared.ShiftAnswer.{ShiftAnswer}
+use Rattle.scroll.specs.declared.ShiftAnswer.the-variants as Shift
+use Rattle.joining.specs.declared.Part.{Part}
+use Rattle.joining.specs.declared.Part.the-variants.{Keep, Set, Refuse}
+use Rattle.effect.specs.declared.EffectAnswer.{EffectAnswer}
+
+-- "The settings sheet gives these, or refusal 2"
+abbrev pub sheetNumbers : List ℕ
+sheetNumbers = 2 ∷ []
+
+-- "Start: 2, 6, 7 for the main block, then 7 and 8 for the first window." 02: "14, enable and window set, in starts too, after a main
+-- block's"
+abbrev pub startNumbers : List ℕ
+startNumbers = 2 ∷ 6 ∷ 7 ∷ 14 ∷ 8 ∷ []
+
+-- 02, of a shift call: "3 (after 2)", and "a start's and a row's as met": the main blocks' 6, 7 and 14, and 7 for the row block
+abbrev pub shiftNumbers : List ℕ
+shiftNumbers = 2 ∷ 3 ∷ 6 ∷ 7 ∷ 14 ∷ []
+
+-- An effect "takes a row's checks but 1": 2 to 4; "a due window (7, 8); the whole row block, then its redefinition (7), 9, 10; window
+-- row block (7), 9, 11; 12; then cells as met (7, 13)".
+abbrev pub effectNumbers : List ℕ
+effectNumbers = 2 ∷ 3 ∷ 4 ∷ 7 ∷ 8 ∷ 9 ∷ 10 ∷ 11 ∷ 12 ∷ 13 ∷ []
+
+abbrev pub rowNumbers : List ℕ
+rowNumbers = 1 ∷ effectNumbers
+
+-- the number that an answer has, where it is a refusal; an effect's parts have one each
+abbrev pub ofSheet : SheetAnswer → List ℕ
+ofSheet (Sheet.Given s) = []
+ofSheet (Sheet.Refused r) = r .number ∷ []
+
+abbrev pub ofStart : StartAnswer → List ℕ
+ofStart (Start.Accepted s) = []
+ofStart (Start.Refused r) = r .number ∷ []
+
+abbrev pub ofShift : ShiftAnswer → List ℕ
+ofShift (Shift.Accepted s) = []
+ofShift (Shift.Refused r) = r .number ∷ []
+
+abbrev pub ofRow : RowAnswer → List ℕ
+ofRow (Row.Accepted d) = []
+ofRow (Row.Refused r) = r .number ∷ []
+
+abbrev pub ofPart : Part → List ℕ
+ofPart Keep = []
+ofPart (Set w) = []
+ofPart (Refuse r) = r .number ∷ []
+
+abbrev pub ofEffect : EffectAnswer → List ℕ
+ofEffect e = ofPart (e .effect .clear) ++ ofPart (e .effect .set)
+
+-- whether a list has a number, and whether it has all of another's
+abbrev pub has : ℕ → List ℕ → Bool
+has n [] = false
+has n (x ∷ xs) = eqb n x || has n xs
+
+abbrev pub within : List ℕ → List ℕ → Bool
+within [] ns = true
+within (x ∷ xs) ns = has x ns && within xs ns
