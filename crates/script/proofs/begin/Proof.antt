@@ -1,4 +1,4 @@
-use Rattle.script.specs.Script.{beginning}
+use Rattle.script.specs.Feeding.{beginning}
 use borrow.Author.Needs.{needs}
 use Rattle.script.proofs.begin.Statement.{statement}
 use Rattle.script.proofs.begin.Tie as tie
