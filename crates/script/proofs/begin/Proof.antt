@@ -1,3 +1,4 @@
+-- The settings are `no_settings`, and every number is 0.
 use Rattle.script.specs.Feeding.{beginning}
 use borrow.Author.Needs.{needs}
 use Rattle.script.proofs.begin.Statement.{statement}

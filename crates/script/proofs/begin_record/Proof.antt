@@ -1,3 +1,4 @@
+-- The tests of the kind are the definition's, and each way out gives its case.
 use borrow.Author.Tests.{eq-eqb, ne-eqb, le-leb, lt-leb}
 use Rattle.script.specs.Feeding.{begun}
 use borrow.Author.Needs.{needs}

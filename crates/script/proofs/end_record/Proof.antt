@@ -1,3 +1,4 @@
+-- A record that is not accepted is refused at its start; an accepted one stores its word and sets its settings.
 use mathlib.Core.Path.{sym, _∙_}
 use borrow.Author.Tests.{not-true, not-false}
 use Rattle.script.specs.Feeding.{ended}

@@ -1,3 +1,4 @@
+-- What the bytes come to is what those from i on come to from where the script stands: a byte more is one step of that.
 use mathlib.Core.Path.{_≡_, refl, sym, _∙_}
 use Prim.Native.Nat.{_-_}
 use native.Mathlib.Omega.{arith}

@@ -1,3 +1,4 @@
+-- A byte is one of kind where no body is awaited, else one of the body, and the last of a body ends its record.
 use borrow.Author.Tests.{eq-eqb, ne-eqb}
 use Rattle.script.specs.Feeding.{stepOf}
 use borrow.Author.Needs.{needs}

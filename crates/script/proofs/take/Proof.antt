@@ -1,3 +1,4 @@
+-- A body of 40 bits: the four bytes before, and one more.
 use mathlib.Core.Path.{_≡_}
 use Prim.Native.Nat.{_+_, _*_, _%_, _^_}
 use native.Mathlib.Omega.{arith}
