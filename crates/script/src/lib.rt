@@ -156,7 +156,7 @@ fn is_accepted(kind: u8, body: u64) -> bool
     }
 }
 
-// The word of a record of kind 2, put in memory.
+// The word of a record of kind 2, put in memory; an accepted one is inside.
 fn store(kind: u8, body: u64, mem: &mut [u16])
     ensures { λ _. ⌜ now (mem .exit) ≡ memoryAfter kind body (now (mem .entry)) ⌝ }
 {
