@@ -18,7 +18,7 @@ use Rattle.frame.specs.declared.Progress.{Progress}
 use Rattle.frame.specs.declared.BeginAnswer.the-variants as Begin
 use Rattle.frame.specs.declared.StepAnswer.{StepAnswer}
 use Rattle.frame.specs.declared.StepAnswer.the-variants.{Drawn, Ended, Refused}
-use Rattle.frame.specs.Step.{begun, begin, Stepped, stepped, step, inBound}
+use Rattle.frame.specs.Step.{begun, begin, Stepped, stepped, step, wordsBound, inBound}
 use Rattle.frame.specs.Frame.{FrameRow, frameRow, byAnswer, byStep, rest, frame}
 use Rattle.frame.proofs.StepLaws.{Advanced, Advances, advances}
 use Rattle.frame.proofs.Frames.{next-step}
@@ -42,13 +42,12 @@ module _ (σ : Settings) (m : List ℕ) where
   pub data Over (p : Progress) : Type 0 where
     over : {rows : List FrameRow} {last : StepAnswer} → Calls p rows last → Over p
 
--- a frame in progress as a start and rows make it
-pub record Made (p : Progress) : Type 0 where
-  pub row : p .state .fields .row ≤ 4095
-  pub few : p .words ≤ 12000 * (p .state .fields .row + 1)
+-- a frame in progress with a count of words that a start and rows can make
+abbrev pub Made : Progress → Type 0
+Made p = p .words ≤ wordsBound (p .state .fields .row)
 
-in-bound : (p : Progress) → Made p → inBound p ≡ p
-in-bound p h = ap (λ (n : ℕ). record { state = p .state; words = n }) (omega (arith, h .row, h .few))
+pub in-bound : (p : Progress) → Made p → inBound p ≡ p
+in-bound p h = ap (λ (n : ℕ). record { state = p .state; words = n }) (omega arith)
 
 module _ (σ : Settings) (m : List ℕ) (w : Words m) where
   -- whatever right buffers are lent
@@ -71,13 +70,10 @@ module _ (σ : Settings) (m : List ℕ) (w : Words m) where
     pub calls-end : (p : Progress) → Over σ m p
     calls-end p = in-turns (p .state .fields .left + 1) p (omega arith)
 
-  made-next : {p q : Progress} {r : DrawnRow} → Made p → Advanced p r q → Made q
+  pub made-next : {p q : Progress} {r : DrawnRow} → Made p → Advanced p r q → Made q
   made-next {p} {q} {r} h k =
       let words = ap (λ (q : Progress). q .words) (k .next) in
-      record {
-        row = omega (arith, k .within, k .numbered, k .fewer);
-        few = omega (arith, h .few, k .few, k .numbered);
-      }
+      omega (arith, k .few, k .numbered)
 
   -- the frame by a step of its caller
   frame-by : (p : Progress) → Made p → (b : List ℕ) → length b ≡ 132 → {x : StepAnswer} {cells : List ℕ}
@@ -103,7 +99,7 @@ module _ (σ : Settings) (m : List ℕ) (w : Words m) where
 
   module _ (latch : ℕ) {p : Progress} (e : begin latch σ m ≡ Begin.Begun p) where
     -- a start gives a frame in progress at row 0, with the words of its start
-    started-made : (p .state .fields .row ≡ 0) × Made p
+    pub started-made : (p .state .fields .row ≡ 0) × Made p
     unfolding begin
     started-made = by-start (run m (startFrom latch σ)) refl e
       where
@@ -114,7 +110,7 @@ module _ (σ : Settings) (m : List ℕ) (w : Words m) where
             let i : record { state = s; words = n } ≡ p = cc in
             let words = ap (λ (p : Progress). p .words) i in
             let row = ap (λ (p : Progress). p .state .fields .row) i in
-            (omega (arith, b .1 .0), record { row = omega (arith, b .1 .0); few = omega (arith, b .0) })
+            (omega (arith, b .1 .0), omega (arith, b .0))
         by-start (refused x) h k = let z : _≡_ {A = ℕ} 0 1 = cc in absurd (omega arith)
 
     -- the rows, and the last answer, are the frame's

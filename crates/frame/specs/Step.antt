@@ -1,5 +1,5 @@
 -- A frame in progress: how it begins, and one step of it.
-use Prim.Native.Nat.{ℕ, _+_, _<_, min}
+use Prim.Native.Nat.{ℕ, _+_, _*_, _<_, min}
 use mathlib.Core.List.{List}
 use lib.Dec.{eqb}
 use Rattle.memory.specs.Word.{if_then_else_}
@@ -52,13 +52,13 @@ step σ m p buffer =
     then stepped (Ended (p .state .fields .row) (p .words)) buffer
     else stepped (rowStep p (c .answer)) (c .buffer)
 
--- A frame's words are below 4,096 times 12,000, so that a count fits 32 bits. A frame in progress that no start and rows make may
--- have any count: one above that bound counts as the bound.
-abbrev pub boundWords : ℕ → ℕ
-boundWords n = min n 49152000
+-- "a row reads fewer than 12,000", and so does a start: a bound on the words that a frame has read before row n. A frame in progress that
+-- no start and rows make may have any count: one above the bound counts as the bound.
+abbrev pub wordsBound : ℕ → ℕ
+wordsBound n = 12000 * (n + 1)
 
 abbrev pub inBound : Progress → Progress
-inBound p = record { state = p .state; words = boundWords (p .words) }
+inBound p = record { state = p .state; words = min (p .words) (wordsBound (p .state .fields .row)) }
 
 -- "the lines run out": fewer are left after a row
 abbrev pub FewerLines : Progress → StepAnswer → Type 0

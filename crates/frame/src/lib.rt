@@ -6,8 +6,9 @@ use settings::Settings;
 use start::StartAnswer;
 use state::State;
 ghost use mathlib.Core.Path.{_≡_};
+ghost use Prim.Native.Nat.{_≤_, min};
 ghost use Rattle.frame.specs.HandedOn.{latchAfter, HandsOn};
-ghost use Rattle.frame.specs.Step.{begin, stepped, step, inBound, boundWords, FewerLines};
+ghost use Rattle.frame.specs.Step.{begin, stepped, step, inBound, wordsBound, FewerLines};
 
 // A frame in progress: the state that its next row is called on, and the words that its start and its rows so far have read.
 pub struct Progress {
@@ -52,7 +53,7 @@ pub fn step(settings: Settings, mem: &[u16], progress: Progress, buffer: &mut [u
     ensures { λ r. ⌜ stepped r (now (buffer .exit)) ≡ step settings (now (mem .entry)) (inBound progress) (now (buffer .entry)) ⌝ }
 {
     let state = progress.state;
-    let words = bound_words(progress.words);
+    let words = bound_words(progress.words, state.fields.row);
     if state.fields.left == 0 {
         return StepAnswer::Ended {
             rows: state.fields.row,
@@ -84,9 +85,11 @@ pub fn handed_on(latch: u16, state: State) -> u16
     state.latch
 }
 
-// A count of words that a frame can have, so that a row's words can be added.
-fn bound_words(words: u32) -> u32
-    ensures { λ r. ⌜ r ≡ boundWords words ⌝ }
+// A count of words that a frame can have before a row, so that a row's words can be added.
+fn bound_words(words: u32, row: u16) -> u32
+    ensures { λ r. ⌜ r ≡ min words (wordsBound row) ⌝ }
+    ensures { λ r. ⌜ r ≤ 786432000 ⌝ }
 {
-    if words < 49152000 { words } else { 49152000 }
+    let bound = 12000 * (row as u32 + 1);
+    if words < bound { words } else { bound }
 }

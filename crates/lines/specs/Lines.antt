@@ -41,7 +41,7 @@ abbrev pub decimal : ℕ → List ℕ
 decimal n = fewest (digits 10 20 n)
 
 -- a line stands at the start of a buffer, n bytes long; the second part follows from the first, and is what a caller who
--- lends those bytes needs
+-- lends those bytes needs. What the buffer's bytes past the line are is left free.
 abbrev pub Line : List ℕ → ℕ → List ℕ → Type 0
 Line line n buffer = (n ≤ length buffer) × (n ≡ length (take n buffer)) × (take n buffer ≡ line)
 

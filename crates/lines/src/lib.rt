@@ -9,26 +9,21 @@ ghost use lib.ListN.{length, take, drop};
 ghost use Rattle.settings.specs.Good.{shownColumns};
 ghost use Rattle.lines.specs.Lines.{text, digit as Lines·digit, digits, hex, fewest, decimal, Line, rowLine, cellLine, shownCells, endLine, refusalLine, scriptLine};
 
-// The line of a row: number, lines, row attributes and words.
-pub fn row_line(row: DrawnRow, out: &mut [u8; 1024]) -> usize
-    ensures { λ r. ⌜ Line (rowLine row) r (now (out .exit)) ⌝ }
+// The lines of a row: one with its number, lines, row attributes and words, and one with its shown cells.
+pub fn row_lines(
+    settings: Settings,
+    row: DrawnRow,
+    cells: &[u32; 132],
+    out: &mut [u8; 2048],
+) -> usize
+    ensures { λ r. ⌜ Line (rowLine row ++ cellLine (shownCells settings (now (cells .entry)))) r (now (out .exit)) ⌝ }
 {
-    let mut at = put_number(out, 0, b"row ", row.number as u64);
-    at = put_number(out, at, b" lines ", row.lines as u64);
-    at = put_hex(out, at, b" attr ", 3, row.format.attributes as u32);
-    at = put_number(out, at, b" words ", row.words as u64);
-    put_end(out, at)
-}
-
-// The line of a row's shown cells.
-pub fn cell_line(settings: Settings, cells: &[u32; 132], out: &mut [u8; 1024]) -> usize
-    ensures { λ r. ⌜ Line (cellLine (shownCells settings (now (cells .entry)))) r (now (out .exit)) ⌝ }
-{
-    put_cells(out, cells, cells_shown(settings))
+    let at = put_row(out, row);
+    put_cells(out, at, cells, cells_shown(settings))
 }
 
 // The last line of a frame: its rows and words.
-pub fn end_line(rows: u64, words: u64, out: &mut [u8; 1024]) -> usize
+pub fn end_line(rows: u64, words: u64, out: &mut [u8; 2048]) -> usize
     ensures { λ r. ⌜ Line (endLine rows words) r (now (out .exit)) ⌝ }
 {
     let mut at = put_number(out, 0, b"end rows ", rows);
@@ -37,7 +32,7 @@ pub fn end_line(rows: u64, words: u64, out: &mut [u8; 1024]) -> usize
 }
 
 // The line of a refusal.
-pub fn refusal_line(refusal: Refusal, out: &mut [u8; 1024]) -> usize
+pub fn refusal_line(refusal: Refusal, out: &mut [u8; 2048]) -> usize
     ensures { λ r. ⌜ Line (refusalLine refusal) r (now (out .exit)) ⌝ }
 {
     let mut at = put_number(out, 0, b"refused ", refusal.number as u64);
@@ -47,7 +42,7 @@ pub fn refusal_line(refusal: Refusal, out: &mut [u8; 1024]) -> usize
 }
 
 // The line of a refused script.
-pub fn script_line(offset: u64, out: &mut [u8; 1024]) -> usize
+pub fn script_line(offset: u64, out: &mut [u8; 2048]) -> usize
     ensures { λ r. ⌜ Line (scriptLine offset) r (now (out .exit)) ⌝ }
 {
     let at = put_number(out, 0, b"refused script at ", offset);
@@ -75,15 +70,26 @@ fn put_end(out: &mut [u8], at: usize) -> usize
     put(out, at, b"\n")
 }
 
-// The first `columns` cells, as a whole line.
-fn put_cells(out: &mut [u8], cells: &[u32], columns: usize) -> usize
-    requires { ⌜ (columns ≤ length (now cells)) × (columns ≤ 132) × (length (now out) ≡ 1024) ⌝ }
-    ensures { λ r. ⌜ Line (cellLine (take columns (now (cells .entry)))) r (now (out .exit)) ⌝ }
+// The first line of a row.
+fn put_row(out: &mut [u8; 2048], row: DrawnRow) -> usize
+    ensures { λ r. ⌜ (r ≤ 88) × (take r (now (out .exit)) ≡ rowLine row) ⌝ }
+{
+    let mut at = put_number(out, 0, b"row ", row.number as u64);
+    at = put_number(out, at, b" lines ", row.lines as u64);
+    at = put_hex(out, at, b" attr ", 3, row.format.attributes as u32);
+    at = put_number(out, at, b" words ", row.words as u64);
+    put(out, at, b"\n")
+}
+
+// The first `columns` cells as a line, after the first `start` bytes.
+fn put_cells(out: &mut [u8], start: usize, cells: &[u32], columns: usize) -> usize
+    requires { ⌜ (columns ≤ length (now cells)) × (columns ≤ 132) × (length (now out) ≡ 2048) × (start ≤ 88) ⌝ }
+    ensures { λ r. ⌜ Line (take start (now (out .entry)) ++ cellLine (take columns (now (cells .entry)))) r (now (out .exit)) ⌝ }
 {
     if columns == 0 {
-        return put_end(out, 0);
+        return put_end(out, start);
     }
-    let mut at = put_hex(out, 0, b"", 6, cells[0]);
+    let mut at = put_hex(out, start, b"", 6, cells[0]);
     let mut i = 1;
     while i < columns {
         at = put_cell(out, at, cells[i]);

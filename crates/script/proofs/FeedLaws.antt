@@ -8,7 +8,7 @@ use lib.Seq.{drop-cons}
 use Rattle.script.specs.declared.Script.{Script}
 use Rattle.script.specs.declared.Step.{Step}
 use Rattle.script.specs.declared.Step.the-variants.{More, Draw, Refused}
-use Rattle.script.specs.Script.{Stepped, stepped, stepOf, onward, feeding}
+use Rattle.script.specs.Feeding.{Stepped, stepped, stepOf, onward, feeding}
 
 -- one byte more
 pub feed-next : (bytes : List ℕ) (i : ℕ) (s : Script) (m : List ℕ) → i < length bytes

@@ -1,3 +1,3 @@
 pub mod KindLaws
 pub mod FeedLaws
-pub mod LengthLaws
+pub mod ByRecords

@@ -1,3 +1,4 @@
 pub mod Records
 pub mod Script
+pub mod Feeding
 pub mod SheetS

@@ -80,7 +80,7 @@ registered register v σ = record {
 }
 
 -- "An unknown kind, register above 18h, odd address or one past memory, or interlace 3 prints `refused script at N`"; "Memory
--- is 16,384 words." An unknown kind has no body: see `begun`.
+-- is 16,384 words." An unknown kind has no body: see `Script.records`.
 unfoldable pub accepted : ℕ → ℕ → Bool
 accepted kind body =
     byKind kind (leb (address body) 0x18) (eqb (address body % 2) 0 && ltb (address body / 2) 16384) (not (eqb (interlaceBits body) 3))

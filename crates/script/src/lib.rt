@@ -6,7 +6,8 @@ ghost use mathlib.Core.Path.{_≡_};
 ghost use Prim.Native.Nat.{_-_};
 ghost use Rattle.memory.specs.Word.{if_then_else_};
 ghost use Rattle.script.specs.Records.{bodyLength, interlaceOf, switched, registered, accepted, settingsAfter, memoryAfter};
-ghost use Rattle.script.specs.Script.{unset, beginning, counted, begun, taken, stepped, ended, stepOf, feeding, atEnd};
+ghost use Rattle.script.specs.Feeding.{beginning, counted, begun, taken, stepped, ended, stepOf, feeding, atEnd};
+ghost use Rattle.script.specs.Script.{unset};
 
 // Where a script stands: its settings so far, the bytes read, and the record in hand.
 pub struct Script {
@@ -41,7 +42,7 @@ pub fn begin() -> Script
 }
 
 // The next bytes of a script, up to its draw or refusal; what they store goes to `mem`.
-pub fn feed(script: Script, bytes: &[u8], mem: &mut [u16]) -> Step
+pub fn feed(script: Script, bytes: &[u8], mem: &mut [u16; 16384]) -> Step
     ensures { λ r. ⌜ stepped r (now (mem .exit)) ≡ feeding (now (bytes .entry)) script (now (mem .entry)) ⌝ }
 {
     let mut s = script;
@@ -71,7 +72,7 @@ pub fn at_end(script: Script) -> u64
 }
 
 // The next byte of a script.
-pub fn read_byte(script: Script, byte: u8, mem: &mut [u16]) -> Step
+pub fn read_byte(script: Script, byte: u8, mem: &mut [u16; 16384]) -> Step
     ensures { λ r. ⌜ stepped r (now (mem .exit)) ≡ stepOf script byte (now (mem .entry)) ⌝ }
 {
     if script.left == 0 {
@@ -124,7 +125,7 @@ fn take(s: Script, byte: u8) -> Script
 }
 
 // A record whose body is there: what it sets and stores, or its refusal.
-fn end_record(s: Script, mem: &mut [u16]) -> Step
+fn end_record(s: Script, mem: &mut [u16; 16384]) -> Step
     ensures { λ r. ⌜ stepped r (now (mem .exit)) ≡ ended s (now (mem .entry)) ⌝ }
 {
     if !is_accepted(s.kind, s.body) {
@@ -155,7 +156,7 @@ fn is_accepted(kind: u8, body: u64) -> bool
     }
 }
 
-// The word of a record of kind 2, put in memory.
+// The word of a record of kind 2, put in memory; an accepted one is inside.
 fn store(kind: u8, body: u64, mem: &mut [u16])
     ensures { λ _. ⌜ now (mem .exit) ≡ memoryAfter kind body (now (mem .entry)) ⌝ }
 {

@@ -3,14 +3,9 @@ ghost use mathlib.Core.Path.{_≡_};
 ghost use Prim.Native.Nat.{_≤_};
 ghost use lib.ListN.{length, take};
 ghost use Rattle.io.specs.Counts.{Counts};
-use frame::BeginAnswer;
-use frame::Progress;
-use frame::StepAnswer;
 use libc::STDOUT_FILENO;
-use memory::Refusal;
-use row::DrawnRow;
 use script::Step;
-use settings::Settings;
+use text::Lines;
 
 // How far the output agrees with the stored bytes, and whether it differs there.
 struct Place {
@@ -137,85 +132,32 @@ fn read_file(path: &[u8], buffer: &mut [u8]) -> usize
 // Memory is 16,384 words, cleared for each script.
 fn draw_script(bytes: &[u8], want: &[u8]) -> Place {
     let mut mem = [0u16; 16384];
-    match script::feed(script::begin(), bytes, &mut mem) {
-        Step::Draw(settings) => draw(settings, &mem, want),
-        Step::Refused(offset) => refused_script(offset, want),
-        Step::More(s) => refused_script(script::at_end(s), want),
-    }
+    let script = script::feed(script::begin(), bytes, &mut mem);
+    compare_text(script, &mem, want)
 }
 
-// A frame: its start, then its rows.
-fn draw(settings: Settings, mem: &[u16], want: &[u8]) -> Place {
-    match frame::begin(settings, mem, 0) {
-        BeginAnswer::Refused(refusal) => with_refusal(beginning(), refusal, want),
-        BeginAnswer::Begun(progress) => draw_rows(settings, mem, progress, want),
-    }
-}
-
-// The rows, until the frame has ended: then the end line, or a refusal in its place.
-fn draw_rows(settings: Settings, mem: &[u16], first: Progress, want: &[u8]) -> Place {
-    let mut place = beginning();
-    let mut progress = first;
-    let mut cells = [0u32; 132];
+// The script's text, compared as its lines come.
+fn compare_text(script: Step, mem: &[u16; 16384], want: &[u8]) -> Place {
+    let mut place = Place {
+        at: 0,
+        differs: false,
+    };
+    let mut text = text::begin(script, mem);
+    let mut out = [0u8; 2048];
     loop {
-        match frame::step(settings, mem, progress, &mut cells) {
-            StepAnswer::Refused(refusal) => {
-                return with_refusal(place, refusal, want);
+        match text::next(text, mem, &mut out) {
+            Lines::AtEnd => {
+                return place;
             }
-            StepAnswer::Ended { rows, words } => {
-                return with_end(place, rows as u64, words as u64, want);
-            }
-            StepAnswer::Drawn {
-                row,
-                progress: next,
-            } => {
-                place = with_row(place, settings, row, &cells, want);
-                progress = next;
+            Lines::Written { count, text: after } => {
+                place = compare(place, &out[..count], want);
+                text = after;
             }
         }
     }
 }
 
-fn beginning() -> Place {
-    Place {
-        at: 0,
-        differs: false,
-    }
-}
-
-fn with_row(
-    place: Place,
-    settings: Settings,
-    row: DrawnRow,
-    cells: &[u32; 132],
-    want: &[u8],
-) -> Place {
-    let mut line = [0u8; 1024];
-    let n = lines::row_line(row, &mut line);
-    let then = compare(place, &line[..n], want);
-    let m = lines::cell_line(settings, cells, &mut line);
-    compare(then, &line[..m], want)
-}
-
-fn with_end(place: Place, rows: u64, words: u64, want: &[u8]) -> Place {
-    let mut line = [0u8; 1024];
-    let n = lines::end_line(rows, words, &mut line);
-    compare(place, &line[..n], want)
-}
-
-fn with_refusal(place: Place, refusal: Refusal, want: &[u8]) -> Place {
-    let mut line = [0u8; 1024];
-    let n = lines::refusal_line(refusal, &mut line);
-    compare(place, &line[..n], want)
-}
-
-fn refused_script(offset: u64, want: &[u8]) -> Place {
-    let mut line = [0u8; 1024];
-    let n = lines::script_line(offset, &mut line);
-    compare(beginning(), &line[..n], want)
-}
-
-// A line of the output, compared with the stored bytes from the place on.
+// Lines of the output, compared with the stored bytes from the place on.
 fn compare(place: Place, line: &[u8], want: &[u8]) -> Place {
     if place.differs {
         return place;

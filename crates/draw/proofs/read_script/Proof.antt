@@ -1,12 +1,11 @@
-use mathlib.Core.Path.{_≡_}
+-- The loop ends, since it counts its turns.
 use Prim.Native.Nat.{_-_}
-use lib.ListN.{length}
 use borrow.Author.Needs.{needs}
 use Rattle.draw.proofs.read_script.Statement.{statement}
 use Rattle.draw.proofs.read_script.Tie as tie
 
 abbrev Inv-loop : tie.InvT-loop
-Inv-loop mem₀ script₀ turns₀ mem script turns = length mem ≡ length mem₀
+Inv-loop mem₀ script₀ turns₀ mem script turns = Unit {0}
 
 abbrev μ-loop : tie.MeasureT-loop
 μ-loop mem₀ script₀ turns₀ mem script turns = 1099511627776 - turns
@@ -20,9 +19,6 @@ read-script-spec =
     (λ c κs. search needs)
     (λ c. search needs)
     (λ c κs. search needs)
-    (λ c. search needs)
-    (λ c. search needs)
-    (λ c. search needs)
     (λ c. search needs)
     (λ c. search needs)
     (λ c. search needs)

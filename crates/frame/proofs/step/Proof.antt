@@ -12,13 +12,13 @@ use Rattle.frame.proofs.step.Tie as tie
 returns : tie.Need-returns
 returns c =
     let a = c .before .before .before .before .before .before .args in
-    (tt, rw (c .before .before .bound-words .ensures) (sym (no-line (a .settings) (a .mem .now) (inBound (a .progress)) (a .buffer .now) (c .if1 .taken))))
+    (tt, rw (c .before .before .bound-words .ensures .0) (sym (no-line (a .settings) (a .mem .now) (inBound (a .progress)) (a .buffer .now) (c .if1 .taken))))
 
 add-t16 : tie.Need-add-t16
 add-t16 c =
     omega (
       arith,
-      c .before .before .before .before .before .before .before .before .before .before .before .bound-words .ensures,
+      c .before .before .before .before .before .before .before .before .before .before .before .bound-words .ensures .1,
       rw (c .before .before .before .row2 .given .1) at (c .before .before .before .before .before .before .before .row .ensures .0),
     )
 
@@ -34,7 +34,7 @@ returns-3 c =
     let e = rw (c .before .before .before .row2 .given .1) at (c .before .before .before .before .before .before .before .row .ensures .1) in
     let is = by-row (a .settings) (a .mem .now) (inBound (a .progress)) (a .buffer .now) (c .before .before .before .before .before .before .before .before .before .if1 .left) e in
     let words : Words (a .mem .now) = λ i. c .before .before .before .before .before .before .before .before .before .before .before .before .before .before .shared-slice-known .given i .fits in
-    rw (c .before .before .before .before .before .before .before .before .before .before .before .bound-words .ensures)
+    rw (c .before .before .before .before .before .before .before .before .before .before .before .bound-words .ensures .0)
     (advanced (a .settings) (a .mem .now) words (inBound (a .progress)) (a .buffer .now) is .fewer, is)
 
 pub step-spec : {M : Type 1} → statement M

@@ -1,4 +1,5 @@
-use Rattle.script.specs.Script.{beginning}
+-- The settings are `no_settings`, and every number is 0.
+use Rattle.script.specs.Feeding.{beginning}
 use borrow.Author.Needs.{needs}
 use Rattle.script.proofs.begin.Statement.{statement}
 use Rattle.script.proofs.begin.Tie as tie

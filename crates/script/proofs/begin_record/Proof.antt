@@ -1,5 +1,6 @@
+-- The tests of the kind are the definition's, and each way out gives its case.
 use borrow.Author.Tests.{eq-eqb, ne-eqb, le-leb, lt-leb}
-use Rattle.script.specs.Script.{begun}
+use Rattle.script.specs.Feeding.{begun}
 use borrow.Author.Needs.{needs}
 use Rattle.script.proofs.begin_record.Statement.{statement}
 use Rattle.script.proofs.begin_record.Tie as tie

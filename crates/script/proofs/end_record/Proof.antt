@@ -1,6 +1,7 @@
+-- A record that is not accepted is refused at its start; an accepted one stores its word and sets its settings.
 use mathlib.Core.Path.{sym, _∙_}
 use borrow.Author.Tests.{not-true, not-false}
-use Rattle.script.specs.Script.{ended}
+use Rattle.script.specs.Feeding.{ended}
 use borrow.Author.Needs.{needs}
 use Rattle.script.proofs.end_record.Statement.{statement}
 use Rattle.script.proofs.end_record.Tie as tie
@@ -12,7 +13,7 @@ returns c = rw (sym (c .before .is-accepted .ensures) ∙ not-true _ (c .if1 .ta
 returns-2 : tie.Need-returns-2
 unfolding ended
 returns-2 c =
-    let t = c .before .before .before .before in
+    let t = c .before .before in
     rw (c .settings-after .ensures, t .store .ensures, sym (t .before .before .before .is-accepted .ensures) ∙ not-false _ (t .before .before .if1 .left))
 
 pub end-record-spec : {M : Type 1} → statement M
@@ -23,5 +24,4 @@ end-record-spec =
     returns
     (λ c κs. search needs)
     (λ c κs. search needs)
-    (λ c. search needs)
     returns-2)

@@ -1,3 +1,4 @@
+-- The match is the choice by kind, and each test is its kind's.
 use mathlib.Core.Path.{sym}
 use Rattle.script.specs.Records.{accepted}
 use Rattle.script.proofs.KindLaws.{kind-1, kind-2, kind-3}

@@ -1,3 +1,4 @@
+-- Every field is the definition's.
 use mathlib.Core.Path.{refl}
 use Rattle.script.specs.Script.{unset}
 use Rattle.script.proofs.no_settings.Statement.{statement}

@@ -1,5 +1,6 @@
+-- A byte is one of kind where no body is awaited, else one of the body, and the last of a body ends its record.
 use borrow.Author.Tests.{eq-eqb, ne-eqb}
-use Rattle.script.specs.Script.{stepOf}
+use Rattle.script.specs.Feeding.{stepOf}
 use borrow.Author.Needs.{needs}
 use Rattle.script.proofs.read_byte.Statement.{statement}
 use Rattle.script.proofs.read_byte.Tie as tie
@@ -12,7 +13,7 @@ returns-2 : tie.Need-returns-2
 unfolding stepOf
 returns-2 c =
     let t = c .before .before in
-    rw (t .end-record .ensures, ne-eqb _ 0 (t .before .before .before .before .before .if1 .left), eq-eqb _ 1 (t .before .before .if2 .taken), t .before .before .before .before .take .ensures)
+    rw (c .end-record .ensures, ne-eqb _ 0 (t .before .before .before .if1 .left), eq-eqb _ 1 (t .if2 .taken), t .before .before .take .ensures)
 
 returns-3 : tie.Need-returns-3
 unfolding stepOf
@@ -26,6 +27,5 @@ read-byte-spec =
     returns
     (λ c κs. search needs)
     (λ c κs. search needs)
-    (λ c. search needs)
     returns-2
     returns-3)

@@ -1,3 +1,4 @@
+-- Each field is picked by the test that the definition has.
 use Rattle.script.specs.Records.{registered}
 use borrow.Author.Needs.{needs}
 use Rattle.script.proofs.set_register.Statement.{statement}

@@ -1,3 +1,4 @@
+-- Each switch is the bit that the definition has.
 use native.Mathlib.Nat.{div-one}
 use Rattle.script.specs.Records.{switched}
 use borrow.Author.Needs.{needs}

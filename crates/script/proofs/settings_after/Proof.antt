@@ -1,3 +1,4 @@
+-- The match is the choice by kind.
 use mathlib.Core.Path.{sym, _∙_}
 use Rattle.script.specs.Records.{settingsAfter}
 use Rattle.script.proofs.KindLaws.{kind-1, kind-2, kind-3}

@@ -1,3 +1,4 @@
+-- A word is set where the record has one; past the end a list stays as it is.
 use mathlib.Core.Path.{sym, _∙_}
 use lib.Seq.{set-out}
 use Rattle.script.specs.Records.{memoryAfter}

@@ -1,7 +1,8 @@
+-- A body of 40 bits: the four bytes before, and one more.
 use mathlib.Core.Path.{_≡_}
 use Prim.Native.Nat.{_+_, _*_, _%_, _^_}
 use native.Mathlib.Omega.{arith}
-use Rattle.script.specs.Script.{taken}
+use Rattle.script.specs.Feeding.{taken}
 use borrow.Author.Needs.{needs}
 use Rattle.script.proofs.take.Statement.{statement}
 use Rattle.script.proofs.take.Tie as tie

@@ -1,3 +1,4 @@
+-- The place stays between where the line begins and the end of the text.
 use Prim.Native.Nat.{_-_, _≤_}
 use lib.ListN.{length}
 use borrow.Author.Needs.{needs}

@@ -1,3 +1,4 @@
+-- The texts agree as far as the loop has come, and one byte more each turn.
 use mathlib.Core.Path.{_≡_}
 use Prim.Native.Nat.{_-_, _≤_, _<_}
 use native.Mathlib.Omega.{arith}

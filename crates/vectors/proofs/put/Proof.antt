@@ -1,3 +1,4 @@
+-- The place that is written stays within the buffer.
 use mathlib.Core.Path.{_≡_, sym}
 use Prim.Native.Nat.{_+_, _-_, _≤_}
 use native.Mathlib.Omega.{arith}

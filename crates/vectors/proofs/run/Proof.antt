@@ -1,3 +1,4 @@
+-- Each line is one script, and counts once at most.
 use Prim.Native.Nat.{_+_, _-_, _≤_}
 use lib.ListN.{length}
 use borrow.Author.Needs.{needs}
