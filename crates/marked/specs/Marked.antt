@@ -37,6 +37,7 @@ use Rattle.plan.specs.Plan.{nextFields, plan}
 use Rattle.codes.specs.Codes.{taking, put, character, examine, wordCodes, codes}
 use Rattle.cells.specs.Cells.{filled, fillByWord, fillTo, segment, segmentsTo, rowCells}
 use Rattle.row.specs.Row.{Called, row, withCursor, rowCall}
+use Rattle.start.specs.Top.{topBlock}
 use Rattle.start.specs.Start.{firstFields, windowStart, startFrom, startCall}
 use Rattle.frame.specs.Step.{begin, step}
 use Rattle.frame.specs.Frame.{within, rest, frame, handedOn}
@@ -284,5 +285,5 @@ tests =
     ∷ []
 
 pub marked : every tests ≡ true
-unfolding same every shownAs shown cellsFrom partShown times settings sheetS memoryS stateAt at stateOfStart wordsOfStart stateAfter buffer firstRow clearPart setPart row0 row1 oddRow padded page one two plain video nine ten twelve windowOn inHand nextShown tests _>>=_ each runFrom pointer nextWord ahead words good checkSettings timing linesForRows clocks halved invokingCodes sheetOf sheetCall ones onesIn mainBlock mainBlockAt segmentOf segmentsOf restOfBlock blockAt rowBlockAt windowRowAt formatOf redefined W.windowOf W.windowAt W.firstWindow W.dueWindow S.windowInRange S.inRange invokes sourceNumber cell width total allFit boundary edgesFit covered onSide segmentsOn windowRow overlaid nextFields backgroundBlock backgroundRow plan taking put character examine wordCodes codes filled fillByWord fillTo segment segmentsTo rowCells row withCursor rowCall firstFields windowStart startFrom startCall begin step within rest frame outcomeFor effectCall
+unfolding same every shownAs shown cellsFrom partShown times settings sheetS memoryS stateAt at stateOfStart wordsOfStart stateAfter buffer firstRow clearPart setPart row0 row1 oddRow padded page one two plain video nine ten twelve windowOn inHand nextShown tests _>>=_ each runFrom pointer nextWord ahead words good checkSettings timing linesForRows clocks halved invokingCodes sheetOf sheetCall ones onesIn mainBlock mainBlockAt segmentOf segmentsOf restOfBlock blockAt rowBlockAt windowRowAt formatOf redefined W.windowOf W.windowAt W.firstWindow W.dueWindow S.windowInRange S.inRange invokes sourceNumber cell width total allFit boundary edgesFit covered onSide segmentsOn windowRow overlaid nextFields backgroundBlock backgroundRow plan taking put character examine wordCodes codes filled fillByWord fillTo segment segmentsTo rowCells row withCursor rowCall topBlock firstFields windowStart startFrom startCall begin step within rest frame outcomeFor effectCall
 marked = refl
