@@ -222,7 +222,7 @@ inHand (Present w) = w .block .top ∷ w .block .bottom ∷ w .block .left ∷ w
 
 -- the lines left after a row, and the window in hand
 nextShown : Called → List ℕ
-nextShown c = stateAfter (c .answer) .fields .left ∷ inHand (given 0 (stateAfter (c .answer) .fields .window))
+nextShown c = stateAfter (c .answer) .fields .left ∷ inHand (stateAfter (c .answer) .fields .window)
 
 -- ---- the statement ----
 pub tests : List Bool
