@@ -1,6 +1,7 @@
--- Joining is associative, the empty effect is neutral on both sides, and a joined effect applies one after the other.
+-- Joining is associative, and so the same in any grouping; the empty effect is neutral on both sides, and a joined effect applies one after the other.
 use mathlib.Core.Path.{_≡_, refl, ap, sym, _∙_}
 use mathlib.Core.Bool.{Bool, true, false}
+use mathlib.Core.List.{List, [], _∷_, _++_}
 use Prim.Native.Nat.{ℕ}
 use Rattle.codes.specs.Attribute.{ignores}
 use Rattle.joining.specs.declared.Part.{Part}
@@ -8,6 +9,7 @@ use Rattle.joining.specs.declared.Part.the-variants.{Keep, Set, Refuse}
 use Rattle.joining.specs.declared.Effect.{Effect}
 use Rattle.joining.specs.declared.Applied.{Applied}
 use Rattle.joining.specs.declared.Applied.the-variants.{Latch, Refused}
+use Rattle.joining.specs.Grouping.{Grouping, nothing, one, both, joined, effects, AnyGrouping}
 use Rattle.joining.specs.Join.{empty, partFor, setThen, joinPart, join, applyPart, apply}
 
 effect-path : {d e : Effect} → d .clear ≡ e .clear → d .set ≡ e .set → d ≡ e
@@ -50,6 +52,25 @@ empty-join e = refl
 
 pub join-empty : (e : Effect) → join e empty ≡ e
 join-empty e = effect-path (join-part-empty (e .clear) false) (join-part-empty (e .set) true)
+
+-- ---- any grouping ----
+-- a list of effects, joined first to last
+abbrev joinAll : List Effect → Effect
+joinAll [] = empty
+joinAll (e ∷ es) = join e (joinAll es)
+
+join-lists : (ds es : List Effect) → joinAll (ds ++ es) ≡ join (joinAll ds) (joinAll es)
+join-lists [] es = refl
+join-lists (d ∷ ds) es = ap (join d) (join-lists ds es) ∙ sym (join-assoc d (joinAll ds) (joinAll es))
+
+grouped : (g : Grouping) → joined g ≡ joinAll (effects g)
+grouped nothing = refl
+grouped (one e) = sym (join-empty e)
+grouped (both g h) =
+    ap (λ (d : Effect). join d (joined h)) (grouped g) ∙ ap (join (joinAll (effects g))) (grouped h) ∙ sym (join-lists (effects g) (effects h))
+
+pub any-grouping : AnyGrouping
+any-grouping g h e = grouped g ∙ ap joinAll e ∙ sym (grouped h)
 
 -- an effect after what came before
 abbrev pub thenApply : Applied → Effect → Applied

@@ -1,7 +1,7 @@
 // Effects of rows on the latch, joined and applied.
 use memory::Refusal;
 ghost use mathlib.Core.Path.{_≡_};
-ghost use Rattle.joining.specs.Join.{partFor, setThen, joinPart, join, apply};
+ghost use Rattle.joining.specs.Join.{empty, partFor, setThen, joinPart, join, apply};
 
 // What a row does to the latch: keep it, set it to a word, or refuse.
 pub enum Part {
@@ -28,6 +28,13 @@ impl Effect {
         clear: Part::Keep,
         set: Part::Keep,
     };
+
+    // The empty effect, which joining starts from.
+    pub fn start() -> Effect
+        ensures { λ r. ⌜ r ≡ empty ⌝ }
+    {
+        Effect::EMPTY
+    }
 
     // This effect, and then `next`.
     pub fn join(self, next: Effect) -> Effect

@@ -80,15 +80,15 @@ times (Sheet.Given s) = s .timing .sync ∷ s .timing .back ∷ s .timing .activ
 times (Sheet.Refused r) = r .number ∷ []
 
 -- ---- settings, states and memory ----
-settings : Bool → Bool → ℕ → Settings
-settings hidden cursor flag = record {
+settings : Bool → Bool → ℕ → ℕ → Settings
+settings hidden cursor flag tow = record {
   linear = true;
   hidden = hidden;
   interlace = Progressive;
   cursor = cursor;
   flag = flag;
   top = record { first = 0; second = 0x10 };
-  tow = record { first = 0; second = 0 };
+  tow = record { first = 0; second = tow };
   vsw = 0;
   vsd = 0;
   val = 16;
@@ -101,7 +101,7 @@ settings hidden cursor flag = record {
 
 -- sheet S: switches 11h, flag 8080
 sheetS : Settings
-sheetS = settings false true 0x8080
+sheetS = settings false true 0x8080 0
 
 memoryS : List ℕ
 memoryS =
@@ -177,7 +177,7 @@ two : ℕ → List ℕ
 two v = page 0x20 (0 ∷ 0 ∷ 2 ∷ 0 ∷ 0 ∷ 0 ∷ 0 ∷ 100 ∷ 0 ∷ 0 ∷ 0 ∷ 0 ∷ v ∷ []) [] []
 
 plain : Settings
-plain = settings false false 0x8080
+plain = settings false false 0x8080 0
 
 -- P8: IV with VSW 5, VSD 33, VAL 513, VTOT 518
 video : Settings
@@ -207,7 +207,7 @@ nine = page 0x20 (one 0x302) (0x4180 ∷ 0x4200 ∷ []) (0xA000 ∷ [])
 ten : List ℕ
 ten = page 0x120 (one 0x8484) (replicate 66 0x4141) (0x8004 ∷ [])
 
--- P12: a window block at 20 on rows 3..3, columns 0 to 5
+-- P12: a window block at 20, TOW of the start, on rows 3..3, columns 0 to 5
 twelve : List ℕ
 twelve = page 0 (0 ∷ 0 ∷ 0 ∷ 0 ∷ 0x303 ∷ 5 ∷ []) [] []
 
@@ -216,14 +216,13 @@ windowOn : ℕ → ℕ → ℕ → WindowInHand
 windowOn n right link =
     Present (record { block = record { top = n; bottom = n; left = 0; right = right; link = to link }; rows = to 0 })
 
-inHand : Outcome WindowInHand → List ℕ
-inHand (given n Absent) = []
-inHand (given n (Present w)) = w .block .top ∷ w .block .bottom ∷ w .block .left ∷ w .block .right ∷ []
-inHand (refused x) = x .number ∷ []
+inHand : WindowInHand → List ℕ
+inHand Absent = []
+inHand (Present w) = w .block .top ∷ w .block .bottom ∷ w .block .left ∷ w .block .right ∷ []
 
 -- the lines left after a row, and the window in hand
 nextShown : Called → List ℕ
-nextShown c = stateAfter (c .answer) .fields .left ∷ inHand (given 0 (stateAfter (c .answer) .fields .window))
+nextShown c = stateAfter (c .answer) .fields .left ∷ inHand (stateAfter (c .answer) .fields .window)
 
 -- ---- the statement ----
 pub tests : List Bool
@@ -254,14 +253,14 @@ tests =
     ∷ same (times (sheetCall video)) (6 ∷ 34 ∷ 480 ∷ 5 ∷ 525 ∷ [])
     -- P9
     ∷ same (cellsFrom 0 2 (firstRow plain nine)) (0x100041 ∷ 0x20 ∷ [])
-    ∷ same (cellsFrom 0 3 (firstRow (settings true false 0x8080) nine)) (0x100041 ∷ 0x100080 ∷ 0x100042 ∷ [])
+    ∷ same (cellsFrom 0 3 (firstRow (settings true false 0x8080 0) nine)) (0x100041 ∷ 0x100080 ∷ 0x100042 ∷ [])
     -- P10
     ∷ same (clearPart plain ten) [] ∷ same (setPart plain ten) (0x8004 ∷ [])
     -- P11
     ∷ same (shown (firstRow plain (two 32))) (0 ∷ 8 ∷ 0 ∷ 0 ∷ 31 ∷ 13 ∷ replicate 132 0x20)
     ∷ same (shown (firstRow plain (two 33))) (10 ∷ 0 ∷ 0 ∷ [])
     -- P12
-    ∷ same (inHand (run twelve (W.firstWindow true (to 0x20)))) (3 ∷ 3 ∷ 0 ∷ 5 ∷ [])
+    ∷ same (inHand (stateOfStart (startCall 0 (settings false false 0x8080 0x20) twelve) .fields .window)) (3 ∷ 3 ∷ 0 ∷ 5 ∷ [])
     ∷ same (shown (rowCall plain twelve (at 4 (windowOn 3 5 0x20)) buffer)) (8 ∷ 4 ∷ 0 ∷ [])
     -- the codes that invoke: 128 of S's, 32 of the mask E0, all 256 of the mask 0
     ∷ eqb (invokingCodes 0x8080) 128 ∷ eqb (invokingCodes 0xE000) 32 ∷ eqb (invokingCodes 0x00FF) 256

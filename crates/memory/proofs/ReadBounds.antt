@@ -2,13 +2,13 @@
 use mathlib.Core.Path.{_≡_, refl, ap, subst}
 use mathlib.Core.Bool.{Bool, true, false, _&&_, and-eq-true-iff}
 use mathlib.Core.List.{List, [], _∷_}
-use Prim.Native.Nat.{ℕ, zero, suc, _+_, _/_, _<_, _≤_}
+use Prim.Native.Nat.{ℕ, zero, suc, _+_, _/_, _<_, _≤_, zero-le}
 use native.Mathlib.Omega.{arith}
 use native.Mathlib.Nat.{le-refl}
 use lib.ListN.{length, getD}
 use lib.Dec.{ltb, lit<}
 use Rattle.memory.specs.Word.{if_then_else_}
-use Rattle.memory.specs.Reading.{Ask, Reading, done, refuse, ask, _>>=_, check, Outcome, given, refused, runFrom}
+use Rattle.memory.specs.Reading.{Ask, Reading, done, refuse, ask, _>>=_, check, Outcome, given, refused, runFrom, asked}
 use Rattle.memory.specs.declared.Fault.{Fault}
 use Rattle.memory.specs.declared.Pointer.{Pointer}
 use Rattle.memory.specs.Address.{onward, words}
@@ -90,3 +90,12 @@ reads-given {A} {P} {n} w m b r e = out (run-reads w m b (le-refl (w + n)) r) e
         let result : x ≡ a = cc in
         (omega arith, subst P result h)
     out refused-within e = let q : _≡_ {A = ℕ} 0 1 = cc in absurd (omega arith)
+
+-- on such a memory it asks for no more words, a missing one included, whether it comes to a result or is refused
+pub reads-asked : {A : Type 0} {P : A → Type 0} {n : ℕ} (m : List ℕ) → Words m → {p : Reading A} → Reads P n p → length (asked m p) ≤ n
+unfolding asked
+reads-asked m b (dones h) = zero-le
+reads-asked m b refuses = zero-le
+reads-asked {n} m b (asks {k} {q} h g) =
+    if-cases (λ (l : List ℕ). suc (length l) ≤ n) (ltb (q .address / 2) (length m))
+    (λ _. omega (arith, reads-asked m b (g (getD m (q .address / 2) 0) (b (q .address / 2))))) (λ _. omega arith)

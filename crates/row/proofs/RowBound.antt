@@ -8,8 +8,8 @@ use native.Mathlib.Omega.{arith}
 use native.Mathlib.Nat.{le-refl}
 use lib.ListN.{length, length-set}
 use lib.Dec.{eqb, lit≤}
-use Rattle.memory.specs.Reading.{Outcome, given, run}
-use Rattle.memory.proofs.ReadBounds.{Words, Reads, dones, bind, Within, given-within, refused-within, if-cases, run-reads, reads-given}
+use Rattle.memory.specs.Reading.{Outcome, given, run, asked}
+use Rattle.memory.proofs.ReadBounds.{Words, Reads, dones, bind, Within, given-within, refused-within, if-cases, run-reads, reads-given, reads-asked}
 use Rattle.settings.specs.declared.Settings.{Settings}
 use Rattle.state.specs.declared.Fields.{Fields}
 use Rattle.state.specs.declared.State.{State}
@@ -52,6 +52,10 @@ module _ (σ : Settings) (m : List ℕ) (b : Words m) (s : State) where
 
   pub row-bound : (n : ℕ) (r : Row) → run m (row σ s) ≡ given n r → (n < 12000) × (length (r .drawing .cells) ≡ 132)
   row-bound n r e = let k = row-drawn e in (k .0, k .1 .whole)
+
+  -- a refused row asks for fewer than 12,000 words too
+  pub row-asks : length (asked m (row σ s)) < 12000
+  row-asks = omega (arith, reads-asked m b (row-reads σ s))
 
   -- an accepted row leaves fewer lines than it found, whatever its block links to
   pub lines-run-out : (n : ℕ) (r : Row) → run m (row σ s) ≡ given n r → r .next .left < s .fields .left
