@@ -2,7 +2,6 @@
 use Prim.Native.Nat.{ℕ, _≤_}
 use Rattle.memory.specs.Reading.{Outcome, given, refused}
 use Rattle.scroll.specs.declared.Offset.{Offset}
-use Rattle.scroll.specs.declared.Rate.{Rate}
 use Rattle.scroll.specs.declared.LinesRead.{LinesRead}
 use Rattle.scroll.specs.declared.LinesRead.the-variants.{Read, Refused}
 
@@ -11,7 +10,7 @@ abbrev pub linesRead : Outcome ℕ → LinesRead
 linesRead (given n lines) = Read lines
 linesRead (refused x) = Refused x
 
--- lines and phase that a scroll in range has, and what a rate adds to them
+-- the lines and the phase that a scroll in range has
 pub record Small (g : Offset) : Type 0 where
   pub lines : g .lines ≤ 31
   pub phase : g .phase ≤ 7

@@ -1,4 +1,6 @@
 -- The test is the rule's.
+use Prim.Native.Nat.{_≤_, _<_}
+use native.Mathlib.Omega.{arith}
 use borrow.Author.Tests.{le-leb, lt-leb}
 use Rattle.scroll.specs.Scroll.{reached}
 use borrow.Author.Needs.{needs}
@@ -7,11 +9,17 @@ use Rattle.scroll.proofs.reached.Tie as tie
 
 returns : tie.Need-returns
 unfolding reached
-returns c = rw (c .shifted .ensures, le-leb _ _ (c .before .if1 .taken))
+returns c =
+    let a = c .before .before .before .args in
+    let over : a .lines ≤ a .g .lines = omega (arith, c .before .if1 .taken) in
+    rw (c .shifted .ensures, le-leb _ _ over)
 
 returns-2 : tie.Need-returns-2
 unfolding reached
-returns-2 c = rw (c .shifted2 .ensures, lt-leb _ _ (c .before .if1 .left))
+returns-2 c =
+    let a = c .before .before .before .args in
+    let short : a .g .lines < a .lines = omega (arith, c .before .if1 .left) in
+    rw (c .shifted2 .ensures, lt-leb _ _ short)
 
 pub reached-spec : {M : Type 1} → statement M
 reached-spec =

@@ -1,6 +1,4 @@
 -- The shift is the lines with the direction's sign, which fits its field.
-use lib.IntN.{pos}
-use Prim.Native.Nat.{_≤_}
 use Rattle.scroll.proofs.SignedLaws.{signed-same}
 use borrow.Author.Needs.{needs}
 use Rattle.scroll.proofs.shifted.Statement.{statement}
@@ -8,8 +6,8 @@ use Rattle.scroll.proofs.shifted.Tie as tie
 
 returns : tie.Need-returns
 returns c =
-    let a = c .before .before .args in
-    rw (c .direction-of .ensures, c .before .signed .ensures, signed-same (a .up) _ (c .before .before .pre))
+    let few = c .before .before .pre in
+    rw (c .direction-of .ensures, c .before .signed .ensures, signed-same)
 
 pub shifted-spec : {M : Type 1} → statement M
 shifted-spec =
