@@ -1,1 +1,2 @@
 pub mod BusLaws
+pub mod Reports
