@@ -1,2 +1,3 @@
 pub mod BusLaws
+pub mod NumberLaws
 pub mod Reports

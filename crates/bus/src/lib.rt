@@ -6,6 +6,8 @@ ghost use Prim.Native.Nat.{_+_, _-_, _*_, _<_, _≤_};
 ghost use Rattle.memory.specs.Word.{if_then_else_};
 ghost use Rattle.bus.specs.Bus.{burstSpace, burstCount, bursts, figures, none, added, fits, allFit, refuse, reported};
 
+pub mod numbers; // totals and figures as numbers
+
 // A row handed in: the burst register (space in the high byte, count in the low), the words read for the row, its screen and row.
 pub struct BusRow {
     pub burst: u16,
