@@ -1,6 +1,5 @@
 // The call of the bus report: running totals and a row's figures, as lent slices of 64-bit numbers.
 use bus::BusRow;
-use bus::numbers;
 ghost use mathlib.Core.Path.{_≡_};
 ghost use Rattle.bus.specs.Numbers.{called};
 ghost use Rattle.thagaduvin.specs.BusCalls.{hostBus};
@@ -26,12 +25,12 @@ pub extern "C" fn thagaduvin_bus(
     if 1 < totals[6] {
         return 255;
     }
-    let before = numbers::totals_at(totals);
+    let before = bus::numbers::totals_at(totals);
     let handed_in = BusRow {
         burst,
         words,
         screen,
         row,
     };
-    numbers::write_report(bus::count_row(before, handed_in), totals, answer)
+    bus::numbers::write_report(bus::count_row(before, handed_in), totals, answer)
 }
