@@ -5,7 +5,7 @@ use mathlib.Core.Bool.{Bool, true, false, _&&_}
 use mathlib.Core.List.{List, [], _∷_}
 use Prim.Native.Nat.{ℕ, zero, suc, _+_, _-_, _*_, _/_, _%_, _^_, _<_, _≤_}
 use native.Mathlib.Omega.{arith}
-use native.Mathlib.Nat.{div-add-mod', mod-lt, suc-mul, zero-mul, add-assoc, add-zero, zero-add}
+use native.Mathlib.Nat.{div-add-mod', mod-lt, suc-mul, zero-mul, le-mul-of-pos-right, mul-le-mul-right}
 use lib.Dec.{eqb, ltb}
 use borrow.Author.Tests.{eq-eqb, ne-eqb, eqb-true, eqb-false, lt-ltb, le-ltb, ltb-true, ltb-false}
 use Rattle.memory.specs.Word.{if_then_else_}
@@ -42,6 +42,26 @@ module _ (burst words : ℕ) (count : burstCount burst ≡ 0 → ⊥) (space : b
       let whole = div-add-mod' (words + (c - 1)) c in
       let part = mod-lt (words + (c - 1)) {m = c} (omega arith) in
       rw (rounded-up burst words read space) (omega (arith, less-one d c (some-burst d c (words + (c - 1)) whole part (omega arith))))
+
+-- no more bursts than words
+pub few-bursts : (burst words : ℕ) → (burstCount burst ≡ 0 → ⊥) → bursts burst words ≤ words
+unfolding bursts
+few-bursts burst words count =
+    if-cases (λ (n : ℕ). n ≤ words) (eqb words 0) (λ e. omega arith)
+    (λ e. if-cases (λ (n : ℕ). n ≤ words) (eqb (burstSpace burst) 0) (λ s. omega (arith, eqb-false words 0 e))
+    (λ s. rounded (eqb-false (burstSpace burst) 0 s) (eqb-false words 0 e)))
+  where
+    rounded : (burstSpace burst ≡ 0 → ⊥) → (words ≡ 0 → ⊥) → (words + (burstCount burst - 1)) / burstCount burst ≤ words
+    rounded s e =
+        let d = (words + (burstCount burst - 1)) / burstCount burst in
+        let h = rw (rounded-up burst words e s) at (fewer-do-not burst words count s e) in
+        omega (arith, le-mul-of-pos-right {m = burstCount burst} (d - 1) (omega arith))
+
+-- and a bound on the time released, by a register of 16 bits
+pub few-released : (burst words : ℕ) → (burstCount burst ≡ 0 → ⊥) → burst < 65536 → released burst words ≤ 3825 * words
+unfolding released
+few-released burst words count h =
+    omega (arith, few-bursts burst words count, mul-le-mul-right {m = burstSpace burst} {n = 255} (gaps burst words) (omega arith))
 
 -- a space of 0 keeps the bus: one burst if any word is read, and no gap
 pub bus-kept : (burst words : ℕ) → burstSpace burst ≡ 0 → (words ≡ 0 → ⊥) → (bursts burst words ≡ 1) × (released burst words ≡ 0)

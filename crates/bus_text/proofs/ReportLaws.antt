@@ -1,6 +1,6 @@
 -- The text of a report, from a frame's start and by each answer of a step.
 use mathlib.Core.Path.{_≡_, refl, sym, ap, subst, _∙_}
-use mathlib.Core.List.{List, [], _∷_, _++_, append-nil}
+use mathlib.Core.List.{List, [], _∷_, _++_, append-assoc, append-nil}
 use mathlib.Core.Option.{none, some}
 use Prim.Native.Nat.{ℕ, _+_, _<_, _≤_}
 use native.Mathlib.Omega.{arith}
@@ -23,13 +23,22 @@ use Rattle.bus.specs.declared.BusRow.{BusRow}
 use Rattle.bus.specs.declared.Totals.{Totals}
 use Rattle.bus.specs.Bus.{reported}
 use Rattle.bus.specs.Bus as Bus
-use Rattle.lines.specs.Lines.{Line, refusalLine}
+use Rattle.lines.specs.Lines.{text, Line, refusalLine}
 use Rattle.bus_text.specs.declared.Text.{Text}
 use Rattle.bus_text.specs.declared.Text.the-variants.{Rows, Ended}
 use Rattle.bus_text.specs.declared.Reporting.{Reporting}
 use Rattle.bus_text.specs.BusLines.{totalLine, largestLine}
 use Rattle.bus_text.specs.FrameReport.{oneScreen, busRow, busRows, byAnswer, rowsText, frameText}
 use Rattle.bus_text.specs.ToCome.{fromRow, toCome, calls, Writes, advanced}
+
+-- the two last lines, written as one
+regroup : (line end name d s e r f last : List ℕ) → line ++ (end ++ name) ++ d ++ s ++ e ++ r ++ f ++ last ≡ (line ++ end) ++ (name ++ d ++ s ++ e ++ r ++ f ++ last)
+regroup line end name d s e r f last = simp append-assoc
+
+pub two-lines : (line d e f : List ℕ)
+    → line ++ text "\nlargest: words " ++ d ++ text ", screen " ++ e ++ text ", row " ++ f ++ text "\n"
+    ≡ (line ++ text "\n") ++ (text "largest: words " ++ d ++ text ", screen " ++ e ++ text ", row " ++ f ++ text "\n")
+two-lines line d e f = regroup line (text "\n") (text "largest: words ") d (text ", screen ") e (text ", row ") f (text "\n")
 
 -- a line, with a text that begins with it
 pub with-line : (m whole : List ℕ) (bound : ℕ) (u : Text) {line : List ℕ} (n : ℕ) (buffer : List ℕ) → Line line n buffer → line ++ toCome m u ≡ whole
