@@ -1,9 +1,9 @@
 -- The laws by which a proof follows the figures of a row and the totals.
 use mathlib.Core.Path.{_≡_, refl, sym, _∙_}
 use mathlib.Core.Bool.{Bool, true, false}
-use Prim.Native.Nat.{ℕ, _+_, _-_, _*_, _/_, _%_, _^_, _<_, _≤_}
+use Prim.Native.Nat.{ℕ, _+_, _-_, _*_, _/_, _^_, _<_, _≤_}
 use native.Mathlib.Omega.{arith}
-use native.Mathlib.Nat.{mul-le-mul-right, div-le-self, div-add-mod', mod-lt}
+use native.Mathlib.Nat.{mul-le-mul-right}
 use lib.Dec.{leb}
 use borrow.Author.Tests.{ne-eqb, ltb-true, leb-true, leb-false, lt-ltb, le-ltb}
 use Rattle.memory.proofs.ReadBounds.{both}

@@ -1,19 +1,18 @@
 -- What is so of every row's figures, and of the report over any list of rows handed in: the totals are the sums over the accepted rows,
 -- with the first of the largest; and rows whose sums fit are all accepted.
 use mathlib.Core.Path.{_≡_, refl, sym, ap, subst, _∙_}
-use mathlib.Core.Bool.{Bool, true, false, _&&_}
+use mathlib.Core.Bool.{Bool, true, false}
 use mathlib.Core.List.{List, [], _∷_}
-use Prim.Native.Nat.{ℕ, zero, suc, _+_, _-_, _*_, _/_, _%_, _^_, _<_, _≤_}
+use Prim.Native.Nat.{ℕ, zero, suc, _+_, _-_, _*_, _/_, _^_, _<_, _≤_}
 use native.Mathlib.Omega.{arith}
 use native.Mathlib.Nat.{div-add-mod', mod-lt, suc-mul, zero-mul, le-mul-of-pos-right, mul-le-mul-right}
 use lib.Dec.{eqb, ltb}
-use borrow.Author.Tests.{eq-eqb, ne-eqb, eqb-true, eqb-false, lt-ltb, le-ltb, ltb-true, ltb-false}
-use Rattle.memory.specs.Word.{if_then_else_}
+use borrow.Author.Tests.{ne-eqb, eqb-false, lt-ltb, ltb-true, ltb-false}
 use Rattle.memory.proofs.ReadBounds.{if-cases}
 use Rattle.bus.specs.declared.BusRow.{BusRow}
 use Rattle.bus.specs.declared.Totals.{Totals}
 use Rattle.bus.specs.declared.Reported.{Reported}
-use Rattle.bus.specs.declared.BusAnswer.the-variants.{Counted, Refused}
+use Rattle.bus.specs.declared.BusAnswer.the-variants.{Counted}
 use Rattle.bus.specs.Bus.{burstSpace, burstCount, bursts, gaps, released, figures, none, larger, added, allFit, refuse, reported}
 use Rattle.bus.specs.Rows.{report, counted, accepted, sum, wordsOf, burstsOf, releasedOf, AtMost, empty, more, FirstLargest, here, later, Tells, Largest, no-row, of-row, Counting, none-left, counting}
 use Rattle.bus.proofs.BusLaws.{no-words, kept-bus, rounded-up}

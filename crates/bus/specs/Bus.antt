@@ -7,7 +7,6 @@ use Rattle.memory.specs.declared.Refusal.{Refusal}
 use Rattle.bus.specs.declared.BusRow.{BusRow}
 use Rattle.bus.specs.declared.Figures.{Figures}
 use Rattle.bus.specs.declared.Totals.{Totals}
-use Rattle.bus.specs.declared.BusAnswer.{BusAnswer}
 use Rattle.bus.specs.declared.BusAnswer.the-variants.{Counted, Refused}
 use Rattle.bus.specs.declared.Reported.{Reported}
 

@@ -1,8 +1,8 @@
 -- A frame's own figures: the words of its start go with row 0, so that the words of the rows handed in are the frame's; with a burst count
 -- they are all accepted, and the report has the frame's words as its total.
-use mathlib.Core.Path.{_≡_, refl, sym, ap, subst, _∙_}
+use mathlib.Core.Path.{_≡_, refl, sym, ap, _∙_}
 use mathlib.Core.List.{List, [], _∷_}
-use Prim.Native.Nat.{ℕ, zero, suc, _+_, _-_, _*_, _<_, _≤_, _^_}
+use Prim.Native.Nat.{ℕ, _+_, _-_, _*_, _<_, _≤_}
 use native.Mathlib.Omega.{arith}
 use lib.ListN.{length}
 use Rattle.memory.proofs.ReadBounds.{Words}
@@ -14,11 +14,10 @@ use Rattle.frame.specs.declared.BeginAnswer.the-variants as Begin
 use Rattle.frame.specs.Frame.{FrameRow, rest, frame, rowWords}
 use Rattle.frame.proofs.Frames.{induction, rest-rows, rest-words}
 use Rattle.frame.proofs.Calls.{started-made}
-use Rattle.bus.specs.declared.BusRow.{BusRow}
 use Rattle.bus.specs.Bus.{burstCount, none}
 use Rattle.bus.specs.Rows.{report, accepted, sum, wordsOf, burstsOf, releasedOf, Counting, none-left, counting}
 use Rattle.bus.proofs.Reports.{few-bursts, few-released, words-summed, all-accepted}
-use Rattle.bus_text.specs.FrameReport.{busRow, busRows, startWords, frameBus}
+use Rattle.bus_text.specs.FrameReport.{busRows, startWords, frameBus}
 
 -- the words of a frame's rows, and those that go with the first of them
 rows-words : (burst screen before : ℕ) (rs : List FrameRow) → 0 < length rs → sum wordsOf (busRows burst screen before rs) ≡ before + rowWords rs

@@ -1,10 +1,10 @@
 -- The text of a report, from a frame's start and by each answer of a step.
-use mathlib.Core.Path.{_≡_, refl, sym, ap, subst, _∙_}
-use mathlib.Core.List.{List, [], _∷_, _++_, append-assoc, append-nil}
-use mathlib.Core.Option.{none, some}
+use mathlib.Core.Path.{_≡_, sym, ap, subst, _∙_}
+use mathlib.Core.List.{List, _++_, append-assoc, append-nil}
+use mathlib.Core.Option.{none}
 use Prim.Native.Nat.{ℕ, _+_, _<_, _≤_}
 use native.Mathlib.Omega.{arith}
-use lib.ListN.{length, take}
+use lib.ListN.{length}
 use Rattle.memory.specs.declared.Refusal.{Refusal}
 use Rattle.memory.proofs.ReadBounds.{Words}
 use Rattle.settings.specs.declared.Settings.{Settings}
@@ -19,8 +19,6 @@ use Rattle.frame.specs.Frame as Frame
 use Rattle.frame.proofs.StepLaws.{Advances, advances}
 use Rattle.frame.proofs.Frames.{next-step}
 use Rattle.frame.proofs.Calls.{in-bound, made-next, started-made}
-use Rattle.bus.specs.declared.BusRow.{BusRow}
-use Rattle.bus.specs.declared.Totals.{Totals}
 use Rattle.bus.specs.Bus.{reported}
 use Rattle.bus.specs.Bus as Bus
 use Rattle.lines.specs.Lines.{text, Line, refusalLine}

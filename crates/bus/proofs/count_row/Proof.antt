@@ -1,5 +1,5 @@
 -- The tests are the definition's, in its order.
-use mathlib.Core.Path.{_≡_, sym, _∙_}
+use mathlib.Core.Path.{sym, _∙_}
 use borrow.Author.Tests.{eq-eqb, ne-eqb, not-true, not-false}
 use Rattle.bus.specs.Bus.{reported}
 use borrow.Author.Needs.{needs}

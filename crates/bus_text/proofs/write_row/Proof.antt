@@ -1,7 +1,6 @@
 -- The answer decides: a counted row has its line and the report goes on from there, a refusal has its line alone.
 use mathlib.Core.Path.{refl}
 use native.Mathlib.Omega.{arith}
-use Rattle.lines.specs.Lines.{refusalLine}
 use Rattle.bus_text.specs.declared.Text.the-variants.{Rows}
 use Rattle.bus_text.specs.ToCome.{toCome, calls, advanced}
 use Rattle.bus_text.proofs.ReportLaws.{with-line, last-line}

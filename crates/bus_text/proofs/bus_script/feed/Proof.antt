@@ -1,9 +1,8 @@
 -- What the bytes come to is what those from i on come to from where the script stands: a byte more is one step of that.
 use mathlib.Core.Path.{_≡_, refl, sym, _∙_}
 use Prim.Native.Nat.{_-_}
-use native.Mathlib.Omega.{arith}
 use lib.ListN.{length, drop, drop-of-length-le}
-use Rattle.bus_text.specs.BusScript.{onward, feeding}
+use Rattle.bus_text.specs.BusScript.{feeding}
 use Rattle.bus_text.proofs.ScriptLaws.{feed-next}
 use borrow.Author.Needs.{needs}
 use Rattle.bus_text.proofs.bus_script.feed.Statement.{statement}
