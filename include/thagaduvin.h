@@ -3,7 +3,7 @@
  * A slice is a pointer and its count of elements, one argument after the other. No pointer is null, also where the count is 0. A
  * slice that a call writes (not const) overlaps no other slice of that call.
  *
- * Every call gives a status: 0, accepted; 1 to 14 but 5, the number of the refusal; 255, a slice has not the count that its table says, or
+ * Every call gives a status: 0, accepted; 1 to 14 but 5, 20 and 21, the number of the refusal; 255, a slice has not the count that its table says, or
  * a number that its place cannot have. A 255 writes nothing. A refusal writes the row and the address into the answer and nothing
  * else: state, scroll and cells stay as they were. The count of cells is judged by refusal 1, not by 255. */
 #ifndef THAGADUVIN_H
@@ -140,6 +140,26 @@ enum {
     THAGADUVIN_SHIFT_ANSWER    /* 4 numbers */
 };
 
+/* The running totals of a bus report, 64-bit numbers: all 0 before the first row. An accepted call writes all of them; they are handed to the
+ * next call as they stand. */
+enum {
+    THAGADUVIN_BUS_WORDS,          /* words of the rows handed in */
+    THAGADUVIN_BUS_BURSTS,         /* their bursts */
+    THAGADUVIN_BUS_RELEASED,       /* their least released time, in system clocks */
+    THAGADUVIN_BUS_LARGEST,        /* the largest word count, of the first row that has it */
+    THAGADUVIN_BUS_LARGEST_SCREEN, /* that row's screen, as handed in */
+    THAGADUVIN_BUS_LARGEST_ROW,    /* that row's number, as handed in */
+    THAGADUVIN_BUS_ANY,            /* 1 a row was handed in, 0 none yet: the three before are then 0 */
+    THAGADUVIN_BUS_TOTALS          /* 7 numbers */
+};
+
+/* The answer of an accepted bus call, 64-bit numbers too: what the row takes. */
+enum {
+    THAGADUVIN_BUS_ROW_BURSTS,     /* its bursts */
+    THAGADUVIN_BUS_ROW_RELEASED,   /* its least released time, in system clocks */
+    THAGADUVIN_BUS_ANSWER          /* 2 numbers */
+};
+
 /* The settings sheet. */
 uint8_t thagaduvin_sheet(const uint32_t *settings, size_t settings_count, uint32_t *answer, size_t answer_count);
 
@@ -171,6 +191,14 @@ uint8_t thagaduvin_join(const uint32_t *first, size_t first_count, const uint32_
 
 /* The latch that an effect makes of `latch`, or its refusal. */
 uint8_t thagaduvin_apply(const uint32_t *effect, size_t effect_count, uint16_t latch, uint32_t *answer, size_t answer_count);
+
+/* A row of a bus report, which is handed in: the burst register (space in the high byte, count in the low), the words read for the row,
+ * its screen and its number. The words of a start go with row 0: hand in their sum, as one count. The bursts are the words over the
+ * count, rounded up; between two bursts of a row the bus is released for 15 system clocks times the space at least. A space of 0 keeps
+ * the bus: one burst if any word is read, and no gap. Refusals: 20, a count of 0; 21, one of the three sums above 2^64 - 1. A refusal,
+ * whose row and address are 0, writes nothing at all. 255 is judged first: another count of totals or answer, or an ANY above 1. */
+uint8_t thagaduvin_bus(uint16_t burst, uint32_t words, uint32_t screen, uint32_t row, uint64_t *totals, size_t totals_count,
+                       uint64_t *answer, size_t answer_count);
 
 /* The calls of a soft scroll are in a library of their own, libthagaduvin_scroll.a; all others in libthagaduvin.a. */
 

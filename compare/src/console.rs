@@ -1,6 +1,7 @@
 //! The calls of include/thagaduvin.h by this implementation, for a console in C. The header says what
 //! the slices are; a caller keeps to it, so each pointer with its count is a slice.
 
+use compare::bus::Used;
 use compare::host::{self, Beside};
 use std::slice::{from_raw_parts, from_raw_parts_mut};
 
@@ -175,6 +176,25 @@ unsafe extern "C" fn thagaduvin_beside(
         from_raw_parts(memory, memory_count),
         &from,
         from_raw_parts_mut(cells, cells_count),
+        from_raw_parts_mut(answer, answer_count),
+    )
+}
+
+#[no_mangle]
+unsafe extern "C" fn thagaduvin_bus(
+    burst: u16,
+    words: u32,
+    screen: u32,
+    row: u32,
+    totals: *mut u64,
+    totals_count: usize,
+    answer: *mut u64,
+    answer_count: usize,
+) -> u8 {
+    host::bus(
+        burst,
+        &Used { words, screen, row },
+        from_raw_parts_mut(totals, totals_count),
         from_raw_parts_mut(answer, answer_count),
     )
 }

@@ -1,6 +1,7 @@
 //! The calls of include/thagaduvin.h over slices of numbers, on top of the rules. The header has
 //! the tables of places; a slice that does not fit its table gives 255 and nothing is written.
 
+use crate::bus::{Largest, Taken, Totals, Used};
 use crate::rules::{
     self, Effect, Fields, Interlace, Part, Refusal, Row, Settings, Sheet, State, Window,
 };
@@ -20,6 +21,8 @@ pub const APPLY_ANSWER: usize = 3;
 pub const LATCH_ANSWER: usize = 3;
 pub const SCROLL: usize = 3;
 pub const SHIFT_ANSWER: usize = 4;
+pub const TOTALS: usize = 7;
+pub const BUS_ANSWER: usize = 2;
 
 const ANY: u32 = u32::MAX;
 
@@ -478,5 +481,57 @@ pub fn beside(
             0
         }
         Err(refusal) => refuse(refusal, answer),
+    }
+}
+
+/// Running totals, if the mark of a largest row is one.
+fn totals_of(n: &[u64; TOTALS]) -> Option<Totals> {
+    let largest = match n[6] {
+        0 => None,
+        1 => Some(Largest {
+            words: n[3],
+            screen: n[4],
+            row: n[5],
+        }),
+        _ => return None,
+    };
+    Some(Totals {
+        words: n[0],
+        bursts: n[1],
+        released: n[2],
+        largest,
+    })
+}
+
+/// The numbers of running totals.
+pub fn totals_numbers(totals: &Totals) -> [u64; TOTALS] {
+    let largest = totals
+        .largest
+        .map_or([0; 4], |l| [l.words, l.screen, l.row, 1]);
+    let mut n = [totals.words, totals.bursts, totals.released, 0, 0, 0, 0];
+    n[3..].copy_from_slice(&largest);
+    n
+}
+
+/// What a row takes of the bus, and the totals with it.
+#[inline(never)]
+pub fn bus(burst: u16, used: &Used, totals: &mut [u64], answer: &mut [u64]) -> u8 {
+    let Ok(totals) = <&mut [u64; TOTALS]>::try_from(totals) else {
+        return UNFIT;
+    };
+    let Ok(answer) = <&mut [u64; BUS_ANSWER]>::try_from(answer) else {
+        return UNFIT;
+    };
+    let Some(mut all) = totals_of(totals) else {
+        return UNFIT;
+    };
+    match all.report(burst, used) {
+        Ok(Taken { bursts, released }) => {
+            *totals = totals_numbers(&all);
+            *answer = [bursts, released];
+            0
+        }
+        // Nothing is written.
+        Err(refusal) => refusal.number,
     }
 }

@@ -1,6 +1,7 @@
 //! A second implementation of the display rules: timing, the walk over the blocks,
-//! row effects, soft scroll and the draw program, with a generator of test cases.
+//! row effects, soft scroll, the bus report and the draw program, with a generator of test cases.
 
+pub mod bus;
 pub mod generate;
 pub mod host;
 pub mod library;
@@ -9,6 +10,8 @@ pub mod script;
 pub mod scroll;
 pub mod vectors;
 
+#[cfg(test)]
+mod bus_tests;
 #[cfg(test)]
 mod plain;
 #[cfg(test)]

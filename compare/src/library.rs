@@ -1,6 +1,7 @@
 //! The calls of include/thagaduvin.h as the proved library has them. All are inlined into their
 //! callers, so that only a program that calls one needs the library when it is linked.
 
+use crate::bus::Used;
 use crate::host::Beside;
 
 extern "C" {
@@ -91,6 +92,16 @@ extern "C" {
         cells: *mut u32,
         cells_count: usize,
         answer: *mut u32,
+        answer_count: usize,
+    ) -> u8;
+    fn thagaduvin_bus(
+        burst: u16,
+        words: u32,
+        screen: u32,
+        row: u32,
+        totals: *mut u64,
+        totals_count: usize,
+        answer: *mut u64,
         answer_count: usize,
     ) -> u8;
 }
@@ -256,6 +267,22 @@ pub fn beside(
             from.state.len(),
             cells.as_mut_ptr(),
             cells.len(),
+            answer.as_mut_ptr(),
+            answer.len(),
+        )
+    }
+}
+
+#[inline]
+pub fn bus(burst: u16, used: &Used, totals: &mut [u64], answer: &mut [u64]) -> u8 {
+    unsafe {
+        thagaduvin_bus(
+            burst,
+            used.words,
+            used.screen,
+            used.row,
+            totals.as_mut_ptr(),
+            totals.len(),
             answer.as_mut_ptr(),
             answer.len(),
         )

@@ -63,7 +63,7 @@ fn put(out: &mut [u8], at: usize, text: &[u8]) -> usize
 }
 
 // The end of a line.
-fn put_end(out: &mut [u8], at: usize) -> usize
+pub fn put_end(out: &mut [u8], at: usize) -> usize
     requires { ⌜ at + 1 ≤ length (now out) ⌝ }
     ensures { λ r. ⌜ Line (take at (now (out .entry)) ++ text "\n") r (now (out .exit)) ⌝ }
 {
@@ -118,7 +118,7 @@ fn put_hex(out: &mut [u8], at: usize, name: &[u8], count: usize, n: u32) -> usiz
 }
 
 // `name`, and a number in decimal.
-fn put_number(out: &mut [u8], at: usize, name: &[u8], n: u64) -> usize
+pub fn put_number(out: &mut [u8], at: usize, name: &[u8], n: u64) -> usize
     requires { ⌜ at + length (now name) + 20 ≤ length (now out) ⌝ }
     ensures { λ r. ⌜ (r ≤ at + length (now (name .entry)) + 20) × (take r (now (out .exit)) ≡ take at (now (out .entry)) ++ now (name .entry) ++ decimal n) ⌝ }
 {

@@ -9,6 +9,7 @@ ghost use mathlib.Core.Path.{_≡_};
 ghost use Rattle.answers.specs.AfterCall.{answered, stated, drawn};
 ghost use Rattle.thagaduvin.specs.Calls.{hostSheet, hostStart, hostRow, hostLatch};
 
+mod bus_calls; // the call of the bus report
 mod effect_calls; // the calls on effects of rows
 
 // The settings sheet, in `answer`.

@@ -1,6 +1,7 @@
 //! Each call made on both sides, compared and counted.
 
-use crate::lent::Lent;
+use crate::lent::{Differs, Lent};
+use compare::bus::Used;
 use compare::host::Beside;
 use compare::{host, library};
 use std::fmt::Debug;
@@ -11,7 +12,7 @@ pub struct Difference(pub String);
 pub type Checked<T> = Result<T, Difference>;
 
 /// The lines of the table.
-const LINES: [&str; 12] = [
+const LINES: [&str; 13] = [
     "sheet",
     "start",
     "row",
@@ -23,14 +24,19 @@ const LINES: [&str; 12] = [
     "latch",
     "shift",
     "row beside the cut",
+    "bus",
     "all",
 ];
-const STATUSES: usize = 16;
 
-/// Calls by line and status; 255 is in the last place.
+/// The statuses of the table: the refusals that these calls can give, 5 to show that none does, and 255.
+const STATUSES: [u8; 18] = [
+    0, 1, 2, 3, 4, 5, 6, 7, 8, 9, 10, 11, 12, 13, 14, 20, 21, 255,
+];
+
+/// Calls by line and status; any other status is counted with 255.
 #[derive(Default)]
 pub struct Tally {
-    counts: [[u64; STATUSES]; LINES.len()],
+    counts: [[u64; STATUSES.len()]; LINES.len()],
     /// Effects whose two parts differ.
     parted: u64,
     /// Accepted starts from a latch that is not 0.
@@ -142,7 +148,8 @@ impl Scrolls {
 
 impl Tally {
     fn count(&mut self, line: usize, status: u32) {
-        self.counts[line][(status as usize).min(STATUSES - 1)] += 1;
+        let found = STATUSES.iter().position(|&s| u32::from(s) == status);
+        self.counts[line][found.unwrap_or(STATUSES.len() - 1)] += 1;
     }
 
     fn count_call(&mut self, line: usize, status: u8) {
@@ -159,10 +166,11 @@ impl Tally {
 
     /// A table of counts in markdown, and sums.
     pub fn print(&self) {
-        let statuses = (0..STATUSES as u32 - 1).chain([255]);
-        let heads: Vec<String> = statuses.map(|status| status.to_string()).collect();
-        println!("| status | {} |", heads.join(" | "));
-        println!("|---|{}", "---|".repeat(STATUSES));
+        println!(
+            "| status | {} |",
+            STATUSES.map(|s| s.to_string()).join(" | ")
+        );
+        println!("|---|{}", "---|".repeat(STATUSES.len()));
         for (line, counts) in LINES.iter().zip(&self.counts) {
             let counts: Vec<String> = counts.iter().map(u64::to_string).collect();
             println!("| {line} | {} |", counts.join(" | "));
@@ -185,10 +193,12 @@ pub struct Calls {
     pub answer: Lent,
     pub effect: Lent,
     pub scroll: Lent,
+    pub totals: Lent<u64>,
+    pub taken: Lent<u64>,
 }
 
 /// Compares what a call left. `given` are its name and what it was given, for a difference.
-fn compare(statuses: [u8; 2], lent: &[&Lent], given: &dyn Debug) -> Checked<u8> {
+fn compare(statuses: [u8; 2], lent: &[&dyn Differs], given: &dyn Debug) -> Checked<u8> {
     let [ours, theirs] = statuses;
     let found = if ours == theirs {
         lent.iter().find_map(|lent| lent.difference())
@@ -210,6 +220,8 @@ impl Calls {
             answer: Lent::new("answer"),
             effect: Lent::new("effect"),
             scroll: Lent::new("scroll"),
+            totals: Lent::new("totals"),
+            taken: Lent::new("answer of the bus"),
         }
     }
 
@@ -376,5 +388,17 @@ impl Calls {
         self.tally.count_call(10, ours);
         self.tally.scrolls.count_beside(from.shift, ours);
         compare([ours, theirs], &[state, cells, answer], &given)
+    }
+
+    pub fn bus(&mut self, burst: u16, used: &Used, from: &[u64], answers: usize) -> Checked<u8> {
+        let (totals, answer) = (&mut self.totals, &mut self.taken);
+        totals.put(from);
+        answer.mark(answers);
+        let statuses = [
+            host::bus(burst, used, totals.ours(), answer.ours()),
+            library::bus(burst, used, totals.theirs(), answer.theirs()),
+        ];
+        self.tally.count_call(11, statuses[0]);
+        compare(statuses, &[totals, answer], &("bus", burst, used, from))
     }
 }

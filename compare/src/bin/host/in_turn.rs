@@ -1,5 +1,6 @@
 //! Frames drawn in turn, each from the latch that the one before handed on.
 
+use crate::bus::Report;
 use crate::calls::{Calls, Checked};
 use crate::frame::Frame;
 use crate::{must, odd};
@@ -29,13 +30,15 @@ pub fn latch(rng: &mut Rng) -> u16 {
 }
 
 /// Row calls from a frame's first state on, until they have drawn all lines, or one is refused, or
-/// the frame is left. A call refused 1 is no row, and does not end the frame. Gives the last state.
+/// the frame is left. A call refused 1 is no row, and does not end the frame. Gives the last state;
+/// the words of each row come after those of the start.
 fn rows(
     calls: &mut Calls,
     rng: &mut Rng,
     settings: &[u32; SETTINGS],
     memory: &[u16],
     lines: u32,
+    words: &mut Vec<u32>,
 ) -> Checked<(End, [u32; STATE])> {
     let mut state: [u32; STATE] = calls.state.left();
     let mut drawn = 0;
@@ -54,6 +57,7 @@ fn rows(
         }
         let answer: [u32; ROW_ANSWER] = calls.answer.left();
         drawn += answer[2];
+        words.push(answer[6]);
     }
     Ok((End::Drawn, state))
 }
@@ -62,6 +66,16 @@ fn rows(
 pub struct Ended {
     pub latch: u16,
     pub state: Option<[u32; STATE]>,
+    /// The words of each row drawn; those of the start are with row 0's.
+    words: Vec<u32>,
+}
+
+/// Puts the words of a start to those of row 0, where that was drawn.
+fn with_start(words: Vec<u32>) -> Vec<u32> {
+    match words[..] {
+        [start, first, ref rest @ ..] => [&[start + first], rest].concat(),
+        _ => Vec::new(),
+    }
 }
 
 /// A frame from a latch. It hands on the latch of its last row where it was drawn to its last line,
@@ -73,7 +87,11 @@ pub fn frame(
     memory: &[u16],
     latch: u16,
 ) -> Checked<Ended> {
-    let refused = Ended { latch, state: None };
+    let refused = Ended {
+        latch,
+        state: None,
+        words: Vec::new(),
+    };
     calls.sheet(settings, SHEET_ANSWER)?;
     let sheet: [u32; SHEET_ANSWER] = calls.answer.left();
     let status = calls.start(settings, memory, latch, STATE, START_ANSWER)?;
@@ -86,7 +104,9 @@ pub fn frame(
         all.refused_starts += 1;
         return Ok(refused);
     }
-    let (end, state) = rows(calls, rng, settings, memory, sheet[7])?;
+    let began: [u32; START_ANSWER] = calls.answer.left();
+    let mut words = vec![began[2]];
+    let (end, state) = rows(calls, rng, settings, memory, sheet[7], &mut words)?;
     let reached = state[0] as u16;
     let handed_on = match end {
         End::Drawn => reached,
@@ -106,6 +126,7 @@ pub fn frame(
     Ok(Ended {
         latch: handed_on,
         state: Some(state),
+        words: with_start(words),
     })
 }
 
@@ -113,6 +134,7 @@ pub fn frame(
 /// changed, or of a part of that memory, so that there are refused ones among them.
 pub fn frames(calls: &mut Calls, rng: &mut Rng, of: &Frame) -> Checked<()> {
     let mut handed_on = latch(rng);
+    let mut report = Report::new(rng);
     for _ in 0..FRAMES {
         let mut settings = of.settings;
         if rng.once_in(6) {
@@ -122,7 +144,9 @@ pub fn frames(calls: &mut Calls, rng: &mut Rng, of: &Frame) -> Checked<()> {
         if rng.once_in(6) {
             memory = &memory[..rng.below(memory.len() + 1)];
         }
-        handed_on = frame(calls, rng, &settings, memory, handed_on)?.latch;
+        let ended = frame(calls, rng, &settings, memory, handed_on)?;
+        report.screen(calls, &ended.words)?;
+        handed_on = ended.latch;
     }
     Ok(())
 }

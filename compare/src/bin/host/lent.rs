@@ -1,21 +1,47 @@
 //! Slices lent to both sides.
 
+use std::fmt::Display;
+
 const GUARD: usize = 8;
 const MOST: usize = 400;
 
+/// An element of a slice.
+pub trait Number: Copy + PartialEq + Display {
+    const ZERO: Self;
+
+    /// A number that calls seldom write.
+    fn marked(mark: u32) -> Self;
+}
+
+impl Number for u32 {
+    const ZERO: u32 = 0;
+
+    fn marked(mark: u32) -> u32 {
+        mark | 0x8000_0000
+    }
+}
+
+impl Number for u64 {
+    const ZERO: u64 = 0;
+
+    fn marked(mark: u32) -> u64 {
+        u64::from(mark) << 31 | 1 << 63
+    }
+}
+
 /// The same numbers twice, for this side and for the library, each copy between guard numbers.
-pub struct Lent {
+pub struct Lent<N = u32> {
     name: &'static str,
-    ours: Vec<u32>,
-    theirs: Vec<u32>,
+    ours: Vec<N>,
+    theirs: Vec<N>,
     count: usize,
     mark: u32,
 }
 
-impl Lent {
-    pub fn new(name: &'static str) -> Lent {
-        let all: Vec<u32> = (0..(2 * GUARD + MOST) as u32)
-            .map(|n| 0xA5A5_0000 + n)
+impl<N: Number> Lent<N> {
+    pub fn new(name: &'static str) -> Lent<N> {
+        let all: Vec<N> = (0..(2 * GUARD + MOST) as u32)
+            .map(|n| N::marked(0xA5A5_0000 + n))
             .collect();
         Lent {
             name,
@@ -27,7 +53,7 @@ impl Lent {
     }
 
     /// Puts numbers into both copies.
-    pub fn put(&mut self, numbers: &[u32]) {
+    pub fn put(&mut self, numbers: &[N]) {
         self.count = numbers.len();
         let place = GUARD..GUARD + self.count;
         self.ours[place.clone()].copy_from_slice(numbers);
@@ -39,32 +65,39 @@ impl Lent {
         self.count = count;
         self.mark = self.mark.wrapping_mul(0x2C92_77B5).wrapping_add(1);
         for n in 0..count {
-            let number = self.mark.wrapping_add(n as u32) | 0x8000_0000;
+            let number = N::marked(self.mark.wrapping_add(n as u32));
             self.ours[GUARD + n] = number;
             self.theirs[GUARD + n] = number;
         }
     }
 
     /// This side's slice.
-    pub fn ours(&mut self) -> &mut [u32] {
+    pub fn ours(&mut self) -> &mut [N] {
         &mut self.ours[GUARD..GUARD + self.count]
     }
 
     /// The library's slice.
-    pub fn theirs(&mut self) -> &mut [u32] {
+    pub fn theirs(&mut self) -> &mut [N] {
         &mut self.theirs[GUARD..GUARD + self.count]
     }
 
     /// The numbers that a call left, of a slice with the right count.
-    pub fn left<const N: usize>(&self) -> [u32; N] {
-        let mut numbers = [0; N];
+    pub fn left<const COUNT: usize>(&self) -> [N; COUNT] {
+        let mut numbers = [N::ZERO; COUNT];
         numbers.copy_from_slice(&self.ours[GUARD..GUARD + self.count]);
         numbers
     }
+}
 
+/// What a call may leave different on the two sides.
+pub trait Differs {
     /// The first place where the two differ, the guards included. This side cannot write outside
     /// its slice, so its guards stand.
-    pub fn difference(&self) -> Option<String> {
+    fn difference(&self) -> Option<String>;
+}
+
+impl<N: Number> Differs for Lent<N> {
+    fn difference(&self) -> Option<String> {
         let all = ..self.count + 2 * GUARD;
         let (ours, theirs) = (&self.ours[all], &self.theirs[all]);
         if ours == theirs {

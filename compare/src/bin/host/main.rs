@@ -4,6 +4,7 @@
 //!
 //! Usage: host [FRAMES [SEED]]; frame n of a seed is frame 0 of the seed n higher.
 
+mod bus;
 mod calls;
 mod frame;
 mod in_turn;
@@ -12,10 +13,11 @@ mod odd;
 mod scroll;
 
 use calls::{Calls, Checked, Difference};
+use compare::bus::Used;
 use compare::generate::Rng;
 use compare::host::{
-    Beside, APPLY_ANSWER, EFFECT, EFFECT_MOST, LATCH_ANSWER, ROW_ANSWER, SCROLL, SETTINGS_MOST,
-    SHEET_ANSWER, SHIFT_ANSWER, START_ANSWER, STATE, STATE_MOST, UNFIT,
+    Beside, APPLY_ANSWER, BUS_ANSWER, EFFECT, EFFECT_MOST, LATCH_ANSWER, ROW_ANSWER, SCROLL,
+    SETTINGS_MOST, SHEET_ANSWER, SHIFT_ANSWER, START_ANSWER, STATE, STATE_MOST, TOTALS, UNFIT,
 };
 use compare::rules::CELLS;
 use frame::Frame;
@@ -226,7 +228,12 @@ fn unfit(calls: &mut Calls, rng: &mut Rng, frame: &Frame, real: &[u32; STATE]) -
         latch,
         state,
     };
-    let status = match rng.below(24) {
+    let used = Used {
+        words: rng.word().into(),
+        screen: 0,
+        row: 0,
+    };
+    let status = match rng.below(27) {
         0 => calls.sheet(&bad_settings, SHEET_ANSWER),
         1 => calls.sheet(settings, odd::count(rng, SHEET_ANSWER)),
         2 => calls.start(&bad_settings, memory, latch, STATE, START_ANSWER),
@@ -274,6 +281,20 @@ fn unfit(calls: &mut Calls, rng: &mut Rng, frame: &Frame, real: &[u32; STATE]) -
             let answers = odd::count(rng, ROW_ANSWER);
             calls.beside(settings, memory, &from, cells, answers)
         }
+        23 => {
+            let totals = vec![0; odd::count(rng, TOTALS)];
+            calls.bus(bus::register(rng), &used, &totals, BUS_ANSWER)
+        }
+        24 => {
+            let totals = bus::totals(rng);
+            let answers = odd::count(rng, BUS_ANSWER);
+            calls.bus(bus::register(rng), &used, &totals, answers)
+        }
+        25 => {
+            let mut totals = bus::totals(rng);
+            totals[6] = rng.draw() + 2;
+            calls.bus(bus::register(rng), &used, &totals, BUS_ANSWER)
+        }
         _ => {
             let from = beside(
                 odd::shift(rng).unsigned_abs().clamp(1, 32) as i32,
@@ -312,6 +333,7 @@ fn compare(calls: &mut Calls, rng: &mut Rng, frame: &Frame) -> Checked<()> {
     odd_settings(calls, rng, frame, &real)?;
     odd_states(calls, rng, frame, &real)?;
     odd_effects(calls, rng)?;
+    bus::lists(calls, rng)?;
     for _ in 0..8 {
         unfit(calls, rng, frame, &rng.clone().pick(&real))?;
     }

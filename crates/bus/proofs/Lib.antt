@@ -1,0 +1,3 @@
+pub mod BusLaws
+pub mod NumberLaws
+pub mod Reports

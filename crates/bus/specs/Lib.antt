@@ -1,0 +1,3 @@
+pub mod Bus
+pub mod Rows
+pub mod Numbers

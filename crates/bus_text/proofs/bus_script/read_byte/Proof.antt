@@ -1,0 +1,30 @@
+-- The byte is the draw program's; each answer has its case.
+use Rattle.bus_text.specs.BusScript.{byteOf}
+use borrow.Author.Needs.{needs}
+use Rattle.bus_text.proofs.bus_script.read_byte.Statement.{statement}
+use Rattle.bus_text.proofs.bus_script.read_byte.Tie as tie
+
+returns : tie.Need-returns
+unfolding byteOf
+returns c = rw (← c .before .before .before .before .read-byte .ensures, c .before .before .next .given .1, c .burst-after .ensures)
+
+returns-2 : tie.Need-returns-2
+unfolding byteOf
+returns-2 c = rw (← c .before .before .before .read-byte .ensures, c .before .settings .given .1)
+
+returns-3 : tie.Need-returns-3
+unfolding byteOf
+returns-3 c = rw (← c .before .before .before .read-byte .ensures, c .before .offset .given .1)
+
+pub read-byte-spec : {M : Type 1} → statement M
+read-byte-spec =
+    tie.close
+    (tie.spec
+    (λ c κs. search needs)
+    (λ c. search needs)
+    (λ c κs. search needs)
+    (λ c. search needs)
+    (λ c. search needs)
+    returns
+    returns-2
+    returns-3)

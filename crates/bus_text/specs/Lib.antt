@@ -1,0 +1,4 @@
+pub mod BusScript
+pub mod BusLines
+pub mod FrameReport
+pub mod ToCome

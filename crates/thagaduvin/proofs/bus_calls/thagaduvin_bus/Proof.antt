@@ -1,0 +1,45 @@
+-- Each test of the code is one of `hostBus`'s; `count_row` gives the report, and `write_report` leaves it in the slices.
+use borrow.Author.Tests.{eq-eqb, ne-eqb, le-leb, lt-leb}
+use Rattle.thagaduvin.specs.BusCalls.{hostBus}
+use borrow.Author.Needs.{needs}
+use Rattle.thagaduvin.proofs.bus_calls.thagaduvin_bus.Statement.{statement}
+use Rattle.thagaduvin.proofs.bus_calls.thagaduvin_bus.Tie as tie
+
+returns : tie.Need-returns
+unfolding hostBus
+returns c = rw (ne-eqb _ 7 (c .if1 .taken))
+
+returns-2 : tie.Need-returns-2
+unfolding hostBus
+returns-2 c = rw (eq-eqb _ 7 (c .before .if1 .left), ne-eqb _ 2 (c .if2 .taken))
+
+returns-3 : tie.Need-returns-3
+unfolding hostBus
+returns-3 c = rw (eq-eqb _ 7 (c .before .before .before .if1 .left), eq-eqb _ 2 (c .before .before .if2 .left), lt-leb _ 1 (c .if3 .taken))
+
+returns-4 : tie.Need-returns-4
+unfolding hostBus
+returns-4 c =
+    rw (
+      eq-eqb _ 7 (c .before .before .before .before .before .before .before .before .before .before .before .before .before .if1 .left),
+      eq-eqb _ 2 (c .before .before .before .before .before .before .before .before .before .before .before .before .if2 .left),
+      le-leb _ 1 (c .before .before .before .before .before .before .before .before .before .before .if3 .left),
+      ← c .before .before .before .before .before .before .before .before .totals-at .ensures,
+      ← c .before .before .before .before .before .before .before .count-row .ensures,
+    )
+    (c .before .before .before .before .write-report .ensures)
+
+pub thagaduvin-bus-spec : {M : Type 1} → statement M
+thagaduvin-bus-spec =
+    tie.close
+    (tie.spec
+    returns
+    returns-2
+    (λ c. search needs)
+    returns-3
+    (λ c κs. search needs)
+    (λ c κs. search needs)
+    (λ c κs. search needs)
+    (λ c. search needs)
+    (λ c. search needs)
+    returns-4)
