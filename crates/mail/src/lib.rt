@@ -45,7 +45,7 @@ pub fn is_character(code: u8) -> bool
 
 // What stands before a cell with `marks` where the one before has the marks `before`, at the start of `out`; its length.
 pub fn change(before: u8, marks: u8, out: &mut [u8; 12]) -> usize
-    ensures { λ r. ⌜ (r ≤ 12) × (take r (now (out .exit)) ≡ change before marks) ⌝ }
+    ensures { λ r. ⌜ (r ≤ 12) × (r ≤ length (now (out .exit))) × (take r (now (out .exit)) ≡ change before marks) ⌝ }
 {
     put_change(out, 0, before, marks)
 }
