@@ -13,6 +13,7 @@ use Rattle.mail.specs.declared.Written.the-variants.{Text}
 use Rattle.mail.specs.Mail.{mailText}
 use Rattle.mail.specs.Write.{mailed, refuse, writeMail}
 use Rattle.mail.specs.Answers.{Put}
+use Rattle.mail.proofs.Longest.{text-length}
 
 module _ (σ : Settings) (cells buffer : List ℕ) where
   pub other-count : (length cells ≡ 132 → ⊥) → mailed (refuse 1) buffer ≡ writeMail σ cells buffer
@@ -27,6 +28,9 @@ module _ (σ : Settings) (cells buffer : List ℕ) where
       (e : take count row ≡ mailText σ cells) where
     long : length (mailText σ cells) ≡ count
     long = ap length (sym e) ∙ length-take-le count row within
+
+    pub few-bytes : count ≤ 1593
+    few-bytes = omega (arith, long, text-length σ cells g h)
 
     pub too-short : length buffer < count → mailed (refuse 23) buffer ≡ writeMail σ cells buffer
     unfolding writeMail

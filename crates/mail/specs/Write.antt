@@ -1,5 +1,5 @@
 -- Document 02, §12: the writer call. "Refusals: 1 and 2; .. then 23, buffer too short, untouched. Places past what is written stay."
-use Prim.Native.Nat.{ℕ}
+use Prim.Native.Nat.{ℕ, _≤_}
 use mathlib.Core.List.{List, _++_}
 use lib.ListN.{length, drop}
 use lib.Dec.{leb, eqb}
@@ -38,3 +38,8 @@ writeMail σ cells buffer =
     if eqb (length cells) 132
     then (if good σ then lending (mailText σ cells) buffer else mailed (refuse 2) buffer)
     else mailed (refuse 1) buffer
+
+-- the longest text that a row can have (`Longest.text-length`), so that a console knows what to lend
+abbrev pub FewBytes : Written → Type 0
+FewBytes (Text n) = n ≤ 1593
+FewBytes (Refused r) = 0 ≤ 1593

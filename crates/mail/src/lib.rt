@@ -8,7 +8,7 @@ ghost use lib.ListN.{length, take};
 ghost use Rattle.memory.specs.Word.{if_then_else_};
 ghost use Rattle.codes.specs.Attribute.{codeOf, attributeOf};
 ghost use Rattle.mail.specs.Mail.{isCharacter, characterFor, marksFor, textCell, characterOf, marksOf, sequence, change, rowEnd, rowText};
-ghost use Rattle.mail.specs.Write.{mailed, refuse, writeMail};
+ghost use Rattle.mail.specs.Write.{mailed, refuse, writeMail, FewBytes};
 ghost use Rattle.mail.specs.Answers.{Put};
 
 // The length of the text written, or the refusal.
@@ -19,6 +19,7 @@ pub enum Written {
 
 // The shown columns of a row's cells as text, at the start of `text`; or refusal 1, 2 or 23, which leave `text` as it was.
 pub fn write_mail(settings: Settings, cells: &[u32], text: &mut [u8]) -> Written
+    ensures { λ r. ⌜ FewBytes r ⌝ }
     ensures { λ r. ⌜ mailed r (now (text .exit)) ≡ writeMail settings (now (cells .entry)) (now (text .entry)) ⌝ }
 {
     if cells.len() != 132 {

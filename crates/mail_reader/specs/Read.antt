@@ -1,6 +1,6 @@
 -- Document 02, §12: the reader call. "24, text not of this form, with the offset of the first byte that no such text can have there after
 -- the bytes before it, or its length; then 23, buffer too short, untouched. Places past what is written stay."
-use Prim.Native.Nat.{ℕ}
+use Prim.Native.Nat.{ℕ, _≤_}
 use mathlib.Core.List.{List}
 use lib.ListN.{length}
 use lib.Dec.{leb}
@@ -33,3 +33,8 @@ answered buffer (stops offset) = readBack (Refused (refusal 0 (notOfThisForm off
 
 unfoldable pub readMail : List ℕ → List ℕ → ReadBack
 readMail t buffer = answered buffer (readRow t)
+
+-- no more cells than a row has
+abbrev pub FewCells : ReadAnswer → Type 0
+FewCells (Read n) = n ≤ 132
+FewCells (Refused r) = 0 ≤ 132

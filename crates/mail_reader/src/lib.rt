@@ -7,7 +7,7 @@ ghost use Prim.Native.Nat.{ℕ, _+_, _≤_, max};
 ghost use lib.ListN.{length, take, drop};
 ghost use Rattle.mail.specs.Write.{onto};
 ghost use Rattle.mail_reader.specs.Reader.{common, tried, nextCell, joined, ended, cellsRead, readRow};
-ghost use Rattle.mail_reader.specs.Read.{readBack, readMail};
+ghost use Rattle.mail_reader.specs.Read.{readBack, readMail, FewCells};
 ghost use Rattle.mail_reader.specs.Answers.{rowRead, NextWithin, RowWithin};
 
 // The number of cells read, or the refusal.
@@ -31,6 +31,7 @@ enum RowRead {
 // The cells of a row's text, at the start of `cells`; or refusal 24 or 23, which leave `cells` as they were. A cell has its character
 // in bits 7..0, highlight in bit 8, underline in 9, blink in 10 and reverse in 11.
 pub fn read_mail(text: &[u8], cells: &mut [u16]) -> ReadAnswer
+    ensures { λ r. ⌜ FewCells r ⌝ }
     ensures { λ r. ⌜ readBack r (now (cells .exit)) ≡ readMail (now (text .entry)) (now (cells .entry)) ⌝ }
 {
     let mut row = [0u16; 132];

@@ -10,6 +10,7 @@ ghost use Rattle.answers.specs.AfterCall.{answered, stated, drawn};
 ghost use Rattle.thagaduvin.specs.Calls.{hostSheet, hostStart, hostRow, hostLatch};
 
 mod effect_calls; // the calls on effects of rows
+mod mail_calls; // the calls of a row's text
 
 // The settings sheet, in `answer`.
 #[no_mangle]

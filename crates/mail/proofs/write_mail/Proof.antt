@@ -6,11 +6,12 @@ use Prim.Native.Nat.{ℕ, _≤_}
 use native.Mathlib.Omega.{arith}
 use lib.ListN.{length, take}
 use lib.Seq.{length-take-le}
+use lib.Dec.{lit≤}
 use borrow.Author.Tests.{not-true, not-false}
 use Rattle.settings.specs.Good.{good}
 use Rattle.settings.proofs.GoodLaws.{ordered}
 use Rattle.mail.specs.Mail.{textCell, rowText}
-use Rattle.mail.proofs.WriteLaws.{other-count, not-good, too-short, all-written}
+use Rattle.mail.proofs.WriteLaws.{other-count, not-good, too-short, few-bytes, all-written}
 use borrow.Author.Needs.{needs}
 use Rattle.mail.proofs.write_mail.Statement.{statement}
 use Rattle.mail.proofs.write_mail.Tie as tie
@@ -18,12 +19,12 @@ use Rattle.mail.proofs.write_mail.Tie as tie
 returns : tie.Need-returns
 returns c =
     let a = c .before .before .before .before .args in
-    rw (c .refuse .ensures) (other-count (a .settings) (a .cells .now) (a .text .now) (c .before .if1 .taken))
+    rw (c .refuse .ensures) (lit≤ tt, other-count (a .settings) (a .cells .now) (a .text .now) (c .before .if1 .taken))
 
 returns-2 : tie.Need-returns-2
 returns-2 c =
     let a = c .before .before .before .before .before .before .args in
-    rw (c .refuse2 .ensures) (not-good (a .settings) (a .cells .now) (a .text .now) (c .before .before .before .if1 .left) (sym (c .before .before .is-good .ensures) ∙ not-true _ (c .before .if2 .taken)))
+    rw (c .refuse2 .ensures) (lit≤ tt, not-good (a .settings) (a .cells .now) (a .text .now) (c .before .before .before .if1 .left) (sym (c .before .before .is-good .ensures) ∙ not-true _ (c .before .if2 .taken)))
 
 put-row-requires : tie.Need-put-row-requires
 put-row-requires c κs =
@@ -38,7 +39,7 @@ returns-3 c =
     let p = c .before .before .put-row in
     let e = p .ensures .1 ∙ ap (λ (n : ℕ). rowText (map textCell (take n (a .cells .now)))) (c .before .before .before .shown-columns .ensures) in
     rw (c .refuse3 .ensures)
-    (too-short (a .settings) (a .cells .now) (a .text .now) (c .before .before .before .before .before .before .before .if1 .left) g (p .last .0) (p .result) (p .ensures .0) e (c .before .if3 .taken))
+    (lit≤ tt, too-short (a .settings) (a .cells .now) (a .text .now) (c .before .before .before .before .before .before .before .if1 .left) g (p .last .0) (p .result) (p .ensures .0) e (c .before .if3 .taken))
 
 array-share-prefix-row : tie.Need-array-share-prefix-row
 array-share-prefix-row c =
@@ -60,7 +61,7 @@ returns-4 c =
     let g : good (a .settings) ≡ true = sym (c .before .before .before .before .before .before .before .before .before .before .is-good .ensures) ∙ not-false _ (c .before .before .before .before .before .before .before .before .before .if2 .left) in
     let p = c .before .before .before .before .before .before .put-row in
     let e = p .ensures .1 ∙ ap (λ (n : ℕ). rowText (map textCell (take n (a .cells .now)))) (c .before .before .before .before .before .before .before .shown-columns .ensures) in
-    all-written (a .settings) (a .cells .now) (a .text .now) (c .before .before .before .before .before .before .before .before .before .before .before .if1 .left) g (p .last .0) (p .result) (p .ensures .0) e _ _ (c .before .before .before .before .before .if3 .left) (c .before .before .put .ensures)
+    (few-bytes (a .settings) (a .cells .now) (a .text .now) (c .before .before .before .before .before .before .before .before .before .before .before .if1 .left) g (p .last .0) (p .result) (p .ensures .0) e, all-written (a .settings) (a .cells .now) (a .text .now) (c .before .before .before .before .before .before .before .before .before .before .before .if1 .left) g (p .last .0) (p .result) (p .ensures .0) e _ _ (c .before .before .before .before .before .if3 .left) (c .before .before .put .ensures))
 
 pub write-mail-spec : {M : Type 1} → statement M
 write-mail-spec =

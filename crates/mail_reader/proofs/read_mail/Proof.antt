@@ -2,6 +2,7 @@
 use mathlib.Core.Path.{sym}
 use native.Mathlib.Omega.{arith}
 use lib.Seq.{length-take-le}
+use lib.Dec.{lit≤}
 use Rattle.mail_reader.proofs.ReaderLaws.{not-a-row, too-short, all-read}
 use borrow.Author.Needs.{needs}
 use Rattle.mail_reader.proofs.read_mail.Statement.{statement}
@@ -17,7 +18,7 @@ returns c =
     let r = rw (c .before .before .before .before .count .given .1) at (c .before .before .before .before .before .before .before .read-row .ensures) in
     let a = c .before .before .before .before .before .before .before .before .before .before .before .args in
     rw (c .refusal-of2 .ensures, c .before .fault-of .ensures)
-    (too-short (a .text .now) (a .cells .now) (c .before .before .before .before .before .before .before .read-row .last .1 .0) _ (r .1) (r .0) (c .before .before .if1 .taken))
+    (lit≤ tt, too-short (a .text .now) (a .cells .now) (c .before .before .before .before .before .before .before .read-row .last .1 .0) _ (r .1) (r .0) (c .before .before .if1 .taken))
 
 array-share-prefix-row : tie.Need-array-share-prefix-row
 array-share-prefix-row c = (rw (c .before .before .count .given .1) at (c .before .before .before .before .before .read-row .ensures)) .1
@@ -36,13 +37,13 @@ returns-2 : tie.Need-returns-2
 returns-2 c =
     let r = rw (c .before .before .offset .given .1) at (c .before .before .before .before .before .read-row .ensures) in
     let a = c .before .before .before .before .before .before .before .before .before .args in
-    rw (c .refusal-of .ensures) (not-a-row (a .text .now) (a .cells .now) _ (r .0))
+    rw (c .refusal-of .ensures) (lit≤ tt, not-a-row (a .text .now) (a .cells .now) _ (r .0))
 
 returns-3 : tie.Need-returns-3
 returns-3 c =
     let r = rw (c .before .before .before .before .before .before .before .count .given .1) at (c .before .before .before .before .before .before .before .before .before .before .read-row .ensures) in
     let a = c .before .before .before .before .before .before .before .before .before .before .before .before .before .before .args in
-    rw (c .before .before .copy .ensures) (all-read (a .text .now) (a .cells .now) (c .before .before .before .before .before .before .before .before .before .before .read-row .last .1 .0) _ (r .1) (r .0) (c .before .before .before .before .before .if1 .left))
+    rw (c .before .before .copy .ensures) (omega (arith, r .1, c .before .before .before .before .before .before .before .before .before .before .read-row .kept .1 .0), all-read (a .text .now) (a .cells .now) (c .before .before .before .before .before .before .before .before .before .before .read-row .last .1 .0) _ (r .1) (r .0) (c .before .before .before .before .before .if1 .left))
 
 pub read-mail-spec : {M : Type 1} → statement M
 read-mail-spec =
