@@ -2,12 +2,14 @@
 use mathlib.Core.Path.{_≡_, refl, sym, ap, _∙_}
 use mathlib.Core.Bool.{Bool, true, false}
 use mathlib.Core.List.{List, [], _∷_, map}
-use Prim.Native.Nat.{ℕ, zero, suc, _+_, _*_, _/_, _%_, _<_, _≤_}
+use Prim.Native.Nat.{ℕ, zero, suc, _+_, _-_, _*_, _/_, _%_, _<_, _≤_}
 use native.Mathlib.Omega.{arith}
 use lib.ListN.{length, take, length-map, length-take}
 use lib.Seq.{length-take-le}
+use borrow.Author.Tests.{lt-ltb, le-leb}
 use Rattle.memory.proofs.ReadBounds.{if-cases}
 use Rattle.codes.specs.Attribute.{codeOf, attributeOf}
+use Rattle.settings.specs.declared.Interlace.the-variants.{Progressive}
 use Rattle.settings.specs.declared.Settings.{Settings}
 use Rattle.settings.specs.Good.{good, shownColumns}
 use Rattle.settings.proofs.GoodLaws.{ordered}
@@ -41,3 +43,34 @@ shown-are-cells σ cells g h =
       most = omega (arith, o .columns);
       each = each-map (take (shownColumns σ) cells);
     }
+
+-- settings that show n columns
+unfoldable pub showing : ℕ → Settings
+showing n = record {
+  linear = true;
+  hidden = false;
+  interlace = Progressive;
+  cursor = false;
+  flag = 0;
+  top = record { first = 0; second = 0 };
+  tow = record { first = 0; second = 0 };
+  vsw = 0;
+  vsd = 0;
+  val = 1;
+  vtot = 1;
+  hsync = 0;
+  hsd = 0;
+  htc = 132;
+  htd = n;
+}
+
+pub showing-good : (n : ℕ) → 1 ≤ n → n ≤ 132 → good (showing n) ≡ true
+unfolding showing good
+showing-good n h k =
+    let d : n - 0 ≤ 132 = omega arith in
+    let r : n ≤ 1023 = omega arith in
+    rw (le-leb n 1023 r, lt-ltb 0 n h, le-leb n 132 k, le-leb (n - 0) 132 d)
+
+pub showing-columns : (n : ℕ) → shownColumns (showing n) ≡ n
+unfolding showing
+showing-columns n = omega arith

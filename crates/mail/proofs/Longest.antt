@@ -11,13 +11,12 @@ use lib.Dec.{eqb, leb, lit≤}
 use borrow.Author.Tests.{eqb-true, eqb-false, eq-eqb, ne-eqb, leb-true}
 use Rattle.memory.specs.Word.{if_then_else_}
 use Rattle.memory.proofs.ReadBounds.{if-cases}
-use Rattle.settings.specs.declared.Interlace.the-variants.{Progressive}
 use Rattle.settings.specs.declared.Settings.{Settings}
 use Rattle.settings.specs.Good.{good}
 use Rattle.mail.specs.Mail.{marksOf, characterOf, textCell, sequence, change, rowEnd, cellsText, rowText, shownCells, mailText}
 use Rattle.mail.specs.Texts.{Each, IsCell, RowCells}
 use Rattle.mail.proofs.Below.{Below, below}
-use Rattle.mail.proofs.CellLaws.{shown-are-cells}
+use Rattle.mail.proofs.CellLaws.{showing, shown-are-cells}
 
 -- the most bytes that m cells take, after one with all four marks or after another
 abbrev most : Bool → ℕ → ℕ
@@ -89,29 +88,10 @@ pub text-length : (σ : Settings) (cells : List ℕ) → good σ ≡ true → le
 text-length σ cells g h = row-length (shownCells σ cells) (shown-are-cells σ cells g h)
 
 -- a row with that many: cells with all four marks and cells with three take turns
-pub widest : Settings
-widest = record {
-  linear = true;
-  hidden = false;
-  interlace = Progressive;
-  cursor = false;
-  flag = 0;
-  top = record { first = 0; second = 0 };
-  tow = record { first = 0; second = 0 };
-  vsw = 0;
-  vsd = 0;
-  val = 1;
-  vtot = 1;
-  hsync = 0;
-  hsd = 0;
-  htc = 132;
-  htd = 132;
-}
-
 pub in-turns : ℕ → List ℕ
 in-turns zero = []
 in-turns (suc n) = 0x6341 ∷ 0x2341 ∷ in-turns n
 
-pub longest-reached : (good widest ≡ true) × (length (in-turns 66) ≡ 132) × (length (mailText widest (in-turns 66)) ≡ 1593)
-unfolding widest in-turns good textCell sequence cellsText
+pub longest-reached : (good (showing 132) ≡ true) × (length (in-turns 66) ≡ 132) × (length (mailText (showing 132) (in-turns 66)) ≡ 1593)
+unfolding showing in-turns good textCell sequence cellsText
 longest-reached = (refl, refl, refl)

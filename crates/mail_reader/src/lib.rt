@@ -17,7 +17,7 @@ pub enum ReadAnswer {
 }
 
 // A cell, and the bytes that it takes with its change of marks; or how many bytes are like one.
-enum Next {
+pub enum Next {
     Cell { cell: u16, bytes: usize },
     Stops(usize),
 }
