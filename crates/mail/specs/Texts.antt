@@ -8,18 +8,19 @@ use Rattle.settings.specs.declared.Settings.{Settings}
 use Rattle.settings.specs.Good.{good}
 use Rattle.mail.specs.Mail.{isCharacter, characterOf, marksOf, mailText}
 
--- a text that the writer writes, for some good settings and some cells of a row buffer
+-- every element of a list has a property
+abbrev pub Each : (ℕ → Type 0) → List ℕ → Type 0
+Each P [] = Unit {0}
+Each P (x ∷ xs) = P x × Each P xs
+
+-- a text that the writer writes, for some good settings and the 132 cells of some row buffer, numbers of 32 bits
 pub record WrittenText (text : List ℕ) : Type 0 where
   pub settings : Settings
   pub cells : List ℕ
   pub accepted : good settings ≡ true
   pub whole : length cells ≡ 132
+  pub sized : Each (λ c. c < 2 ^ 32) cells
   pub written : text ≡ mailText settings cells
-
--- every element of a list has a property
-abbrev pub Each : (ℕ → Type 0) → List ℕ → Type 0
-Each P [] = Unit {0}
-Each P (x ∷ xs) = P x × Each P xs
 
 -- a character and four marks
 pub record IsCell (c : ℕ) : Type 0 where

@@ -2,10 +2,11 @@
 use mathlib.Core.Path.{_≡_, refl, sym, ap, _∙_}
 use mathlib.Core.Bool.{Bool, true, false, _&&_}
 use mathlib.Core.List.{List, [], _∷_, _++_, map}
-use Prim.Native.Nat.{ℕ, zero, suc, _+_, _-_, _*_, _/_, _%_, _<_, _≤_}
+use Prim.Native.Nat.{ℕ, zero, suc, _+_, _-_, _*_, _/_, _%_, _^_, _<_, _≤_}
 use native.Mathlib.Omega.{arith}
 use lib.ListN.{length, take, replicate, length-append, length-map, length-replicate}
 use lib.Seq.{take-at}
+use lib.Dec.{lit<}
 use Rattle.codes.specs.Attribute.{codeOf, attributeOf}
 use Rattle.settings.specs.declared.Settings.{Settings}
 use Rattle.settings.specs.Good.{good, shownColumns}
@@ -47,6 +48,19 @@ all-text : (cs : List ℕ) → Each IsCell cs → map textCell (map buffer-cell 
 all-text [] h = refl
 all-text (c ∷ cs) h = rw (buffer-text c (h .0), all-text cs (h .1))
 
+-- its cells are numbers of 32 bits
+abbrev Sized : ℕ → Type 0
+Sized c = c < 2 ^ 32
+
+buffer-sized : (cs rest : List ℕ) → Each Sized rest → Each Sized (map buffer-cell cs ++ rest)
+unfolding buffer-cell
+buffer-sized [] rest h = h
+buffer-sized (c ∷ cs) rest h = (omega (arith, attribute-small (marksOf c)), buffer-sized cs rest h)
+
+zeros-sized : (n : ℕ) → Each Sized (replicate n 0)
+zeros-sized zero = tt
+zeros-sized (suc n) = (lit< tt, zeros-sized n)
+
 abbrev buffer : List ℕ → List ℕ
 buffer cs = map buffer-cell cs ++ replicate (132 - length cs) 0
 
@@ -60,6 +74,7 @@ row-written cs h =
       cells = buffer cs;
       accepted = showing-good (length cs) (h .some) (h .most);
       whole = length-append (map buffer-cell cs) (replicate (132 - length cs) 0) ∙ rw (n, length-replicate {A = ℕ} (132 - length cs) 0) (omega (arith, h .most));
+      sized = buffer-sized cs (replicate (132 - length cs) 0) (zeros-sized (132 - length cs));
       written = sym (ap (λ (l : List ℕ). rowText (map textCell l)) shown ∙ ap rowText (all-text cs (h .each)));
     }
 
