@@ -3,7 +3,7 @@
  * A slice is a pointer and its count of elements, one argument after the other. No pointer is null, also where the count is 0. A
  * slice that a call writes (not const) overlaps no other slice of that call.
  *
- * Every call gives a status: 0, accepted; 1 to 14 but 5, 20 and 21, the number of the refusal; 255, a slice has not the count that its table says, or
+ * Every call gives a status: 0, accepted; 1 to 14 but 5, 20, 21, 23 and 24, the number of the refusal; 255, a slice has not the count that its table says, or
  * a number that its place cannot have. A 255 writes nothing. A refusal writes the row and the address into the answer and nothing
  * else: state, scroll and cells stay as they were. The count of cells is judged by refusal 1, not by 255. */
 #ifndef THAGADUVIN_H
@@ -108,6 +108,23 @@ enum {
 
 enum { THAGADUVIN_CELLS = 132 };
 
+/* The answer of a writer or a reader of a row's text: the text's length, or the count of cells; of refusal 24 the offset. */
+enum {
+    THAGADUVIN_MAIL_COUNT,
+    THAGADUVIN_MAIL_ANSWER     /* 1 number */
+};
+
+/* The longest text that a row can have, in bytes: a buffer of this size is never too short. */
+enum { THAGADUVIN_MAIL_TEXT = 1593 };
+
+/* A cell that was read back, of 16 bits: its character in bits 7..0, and its four marks. The bits above are 0. */
+enum {
+    THAGADUVIN_MAIL_HIGHLIGHT = 0x100,
+    THAGADUVIN_MAIL_UNDERLINE = 0x200,
+    THAGADUVIN_MAIL_BLINK = 0x400,
+    THAGADUVIN_MAIL_REVERSE = 0x800
+};
+
 /* An effect: its part for a latch with ignore (bit 13) clear, then, 5 places on, the one for a latch with ignore set. A part refuses
  * where the number of its refusal is not 0; else it sets the latch or keeps it. What a part does not use is written as 0. Ten zeros
  * are the empty effect. */
@@ -199,6 +216,19 @@ uint8_t thagaduvin_apply(const uint32_t *effect, size_t effect_count, uint16_t l
  * whose row and address are 0, writes nothing at all. 255 is judged first: another count of totals or answer, or an ANY above 1. */
 uint8_t thagaduvin_bus(uint16_t burst, uint32_t words, uint32_t screen, uint32_t row, uint64_t *totals, size_t totals_count,
                        uint64_t *answer, size_t answer_count);
+
+/* The shown columns of a row's cells as terminal text with ECMA-48 marks, into `text`: ESC [ 0 m, the characters, ESC [ 0 m and a line feed. A
+ * code outside 20h to 7Eh is written as ?. Before a cell whose marks differ from the cell before stand a fresh 0 and those of 1 highlight, 4
+ * underline, 5 blink and 7 reverse that hold, rising, as in ESC [ 0 ; 4 ; 5 m. Bytes past the text stay. Refusals: 1, not 132 cells; 2; 23,
+ * `text` is too short. A refusal writes nothing at all. Whether a row call filled `cells` is the caller's word. */
+uint8_t thagaduvin_write_mail(const uint32_t *settings, size_t settings_count, const uint32_t *cells, size_t cells_count, uint8_t *text,
+                              size_t text_count, uint32_t *answer, size_t answer_count);
+
+/* The cells of one such text, of 1 to 132 cells, into `cells`; those past them stay. Any bytes may be handed in. Refusals: 24, the text is none
+ * that the writer writes, and the answer is the length of the longest beginning of it that some written text also has: the offset of the first
+ * byte that cannot stand there, or the text's length; then 23, `cells` is too short. 24 writes the answer and nothing else, 23 nothing at all. */
+uint8_t thagaduvin_read_mail(const uint8_t *text, size_t text_count, uint16_t *cells, size_t cells_count, uint32_t *answer,
+                             size_t answer_count);
 
 /* The calls of a soft scroll are in a library of their own, libthagaduvin_scroll.a; all others in libthagaduvin.a. */
 

@@ -198,3 +198,38 @@ unsafe extern "C" fn thagaduvin_bus(
         from_raw_parts_mut(answer, answer_count),
     )
 }
+
+#[no_mangle]
+unsafe extern "C" fn thagaduvin_write_mail(
+    settings: *const u32,
+    settings_count: usize,
+    cells: *const u32,
+    cells_count: usize,
+    text: *mut u8,
+    text_count: usize,
+    answer: *mut u32,
+    answer_count: usize,
+) -> u8 {
+    host::write_mail(
+        from_raw_parts(settings, settings_count),
+        from_raw_parts(cells, cells_count),
+        from_raw_parts_mut(text, text_count),
+        from_raw_parts_mut(answer, answer_count),
+    )
+}
+
+#[no_mangle]
+unsafe extern "C" fn thagaduvin_read_mail(
+    text: *const u8,
+    text_count: usize,
+    cells: *mut u16,
+    cells_count: usize,
+    answer: *mut u32,
+    answer_count: usize,
+) -> u8 {
+    host::read_mail(
+        from_raw_parts(text, text_count),
+        from_raw_parts_mut(cells, cells_count),
+        from_raw_parts_mut(answer, answer_count),
+    )
+}

@@ -2,6 +2,7 @@
 //! the tables of places; a slice that does not fit its table gives 255 and nothing is written.
 
 use crate::bus::{Largest, Taken, Totals, Used};
+use crate::mail;
 use crate::rules::{
     self, Effect, Fields, Interlace, Part, Refusal, Row, Settings, Sheet, State, Window,
 };
@@ -23,6 +24,7 @@ pub const SCROLL: usize = 3;
 pub const SHIFT_ANSWER: usize = 4;
 pub const TOTALS: usize = 7;
 pub const BUS_ANSWER: usize = 2;
+pub const MAIL_ANSWER: usize = 1;
 
 const ANY: u32 = u32::MAX;
 
@@ -533,5 +535,44 @@ pub fn bus(burst: u16, used: &Used, totals: &mut [u64], answer: &mut [u64]) -> u
         }
         // Nothing is written.
         Err(refusal) => refusal.number,
+    }
+}
+
+/// The text of a row, and its length.
+#[inline(never)]
+pub fn write_mail(settings: &[u32], cells: &[u32], text: &mut [u8], answer: &mut [u32]) -> u8 {
+    let Ok(answer) = <&mut [u32; MAIL_ANSWER]>::try_from(answer) else {
+        return UNFIT;
+    };
+    let Some(settings) = settings_of(settings) else {
+        return UNFIT;
+    };
+    match mail::write(&settings, cells, text) {
+        Ok(length) => {
+            *answer = [length as u32];
+            0
+        }
+        // Nothing is written.
+        Err(refusal) => refusal.number,
+    }
+}
+
+/// The cells of a text, and their count.
+#[inline(never)]
+pub fn read_mail(text: &[u8], cells: &mut [u16], answer: &mut [u32]) -> u8 {
+    let Ok(answer) = <&mut [u32; MAIL_ANSWER]>::try_from(answer) else {
+        return UNFIT;
+    };
+    match mail::read(text, cells) {
+        Ok(count) => {
+            *answer = [count as u32];
+            0
+        }
+        Err(refusal) => {
+            if refusal.number == 24 {
+                *answer = [refusal.address];
+            }
+            refusal.number
+        }
     }
 }

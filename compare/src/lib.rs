@@ -1,10 +1,11 @@
 //! A second implementation of the display rules: timing, the walk over the blocks,
-//! row effects, soft scroll, the bus report and the draw program, with a generator of test cases.
+//! row effects, soft scroll, the bus report, text for mail and the draw program, with a generator of test cases.
 
 pub mod bus;
 pub mod generate;
 pub mod host;
 pub mod library;
+pub mod mail;
 pub mod rules;
 pub mod script;
 pub mod scroll;
@@ -12,6 +13,8 @@ pub mod vectors;
 
 #[cfg(test)]
 mod bus_tests;
+#[cfg(test)]
+mod mail_tests;
 #[cfg(test)]
 mod plain;
 #[cfg(test)]

@@ -104,6 +104,24 @@ extern "C" {
         answer: *mut u64,
         answer_count: usize,
     ) -> u8;
+    fn thagaduvin_write_mail(
+        settings: *const u32,
+        settings_count: usize,
+        cells: *const u32,
+        cells_count: usize,
+        text: *mut u8,
+        text_count: usize,
+        answer: *mut u32,
+        answer_count: usize,
+    ) -> u8;
+    fn thagaduvin_read_mail(
+        text: *const u8,
+        text_count: usize,
+        cells: *mut u16,
+        cells_count: usize,
+        answer: *mut u32,
+        answer_count: usize,
+    ) -> u8;
 }
 
 #[inline]
@@ -283,6 +301,36 @@ pub fn bus(burst: u16, used: &Used, totals: &mut [u64], answer: &mut [u64]) -> u
             used.row,
             totals.as_mut_ptr(),
             totals.len(),
+            answer.as_mut_ptr(),
+            answer.len(),
+        )
+    }
+}
+
+#[inline]
+pub fn write_mail(settings: &[u32], cells: &[u32], text: &mut [u8], answer: &mut [u32]) -> u8 {
+    unsafe {
+        thagaduvin_write_mail(
+            settings.as_ptr(),
+            settings.len(),
+            cells.as_ptr(),
+            cells.len(),
+            text.as_mut_ptr(),
+            text.len(),
+            answer.as_mut_ptr(),
+            answer.len(),
+        )
+    }
+}
+
+#[inline]
+pub fn read_mail(text: &[u8], cells: &mut [u16], answer: &mut [u32]) -> u8 {
+    unsafe {
+        thagaduvin_read_mail(
+            text.as_ptr(),
+            text.len(),
+            cells.as_mut_ptr(),
+            cells.len(),
             answer.as_mut_ptr(),
             answer.len(),
         )

@@ -11,6 +11,7 @@ ghost use Rattle.thagaduvin.specs.Calls.{hostSheet, hostStart, hostRow, 
 
 mod bus_calls; // the call of the bus report
 mod effect_calls; // the calls on effects of rows
+mod mail_calls; // the calls of a row's text
 
 // The settings sheet, in `answer`.
 #[no_mangle]

@@ -4,7 +4,7 @@ use crate::lent::{Differs, Lent};
 use compare::bus::Used;
 use compare::host::Beside;
 use compare::{host, library};
-use std::fmt::Debug;
+use std::fmt::{self, Debug, Formatter};
 
 /// What differed, in words.
 pub struct Difference(pub String);
@@ -12,7 +12,7 @@ pub struct Difference(pub String);
 pub type Checked<T> = Result<T, Difference>;
 
 /// The lines of the table.
-const LINES: [&str; 13] = [
+const LINES: [&str; 15] = [
     "sheet",
     "start",
     "row",
@@ -25,12 +25,14 @@ const LINES: [&str; 13] = [
     "shift",
     "row beside the cut",
     "bus",
+    "writer of mail",
+    "reader of mail",
     "all",
 ];
 
 /// The statuses of the table: the refusals that these calls can give, 5 to show that none does, and 255.
-const STATUSES: [u8; 18] = [
-    0, 1, 2, 3, 4, 5, 6, 7, 8, 9, 10, 11, 12, 13, 14, 20, 21, 255,
+const STATUSES: [u8; 20] = [
+    0, 1, 2, 3, 4, 5, 6, 7, 8, 9, 10, 11, 12, 13, 14, 20, 21, 23, 24, 255,
 ];
 
 /// Calls by line and status; any other status is counted with 255.
@@ -195,6 +197,17 @@ pub struct Calls {
     pub scroll: Lent,
     pub totals: Lent<u64>,
     pub taken: Lent<u64>,
+    pub text: Lent<u8>,
+    pub mail: Lent<u16>,
+}
+
+/// A text as it stands in a difference.
+struct Bytes<'t>(&'t [u8]);
+
+impl Debug for Bytes<'_> {
+    fn fmt(&self, to: &mut Formatter) -> fmt::Result {
+        write!(to, "{}", self.0.escape_ascii())
+    }
 }
 
 /// Compares what a call left. `given` are its name and what it was given, for a difference.
@@ -222,6 +235,8 @@ impl Calls {
             scroll: Lent::new("scroll"),
             totals: Lent::new("totals"),
             taken: Lent::new("answer of the bus"),
+            text: Lent::new("text"),
+            mail: Lent::new("cells of the text"),
         }
     }
 
@@ -400,5 +415,37 @@ impl Calls {
         ];
         self.tally.count_call(11, statuses[0]);
         compare(statuses, &[totals, answer], &("bus", burst, used, from))
+    }
+
+    pub fn write_mail(
+        &mut self,
+        settings: &[u32],
+        cells: &[u32],
+        bytes: usize,
+        answers: usize,
+    ) -> Checked<u8> {
+        let (text, answer) = (&mut self.text, &mut self.answer);
+        text.mark(bytes);
+        answer.mark(answers);
+        let statuses = [
+            host::write_mail(settings, cells, text.ours(), answer.ours()),
+            library::write_mail(settings, cells, text.theirs(), answer.theirs()),
+        ];
+        self.tally.count_call(12, statuses[0]);
+        let given = ("write_mail", settings, cells, bytes, answers);
+        compare(statuses, &[text, answer], &given)
+    }
+
+    pub fn read_mail(&mut self, text: &[u8], cells: usize, answers: usize) -> Checked<u8> {
+        let (mail, answer) = (&mut self.mail, &mut self.answer);
+        mail.mark(cells);
+        answer.mark(answers);
+        let statuses = [
+            host::read_mail(text, mail.ours(), answer.ours()),
+            library::read_mail(text, mail.theirs(), answer.theirs()),
+        ];
+        self.tally.count_call(13, statuses[0]);
+        let given = ("read_mail", Bytes(text), cells, answers);
+        compare(statuses, &[mail, answer], &given)
     }
 }

@@ -3,7 +3,7 @@
 use std::fmt::Display;
 
 const GUARD: usize = 8;
-const MOST: usize = 400;
+const MOST: usize = 2048;
 
 /// An element of a slice.
 pub trait Number: Copy + PartialEq + Display {
@@ -11,6 +11,22 @@ pub trait Number: Copy + PartialEq + Display {
 
     /// A number that calls seldom write.
     fn marked(mark: u32) -> Self;
+}
+
+impl Number for u8 {
+    const ZERO: u8 = 0;
+
+    fn marked(mark: u32) -> u8 {
+        mark as u8 | 0x80
+    }
+}
+
+impl Number for u16 {
+    const ZERO: u16 = 0;
+
+    fn marked(mark: u32) -> u16 {
+        mark as u16 | 0x8000
+    }
 }
 
 impl Number for u32 {
@@ -79,6 +95,11 @@ impl<N: Number> Lent<N> {
     /// The library's slice.
     pub fn theirs(&mut self) -> &mut [N] {
         &mut self.theirs[GUARD..GUARD + self.count]
+    }
+
+    /// The first so many of the numbers that a call left.
+    pub fn first(&self, count: usize) -> &[N] {
+        &self.ours[GUARD..GUARD + count]
     }
 
     /// The numbers that a call left, of a slice with the right count.

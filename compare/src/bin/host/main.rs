@@ -9,6 +9,7 @@ mod calls;
 mod frame;
 mod in_turn;
 mod lent;
+mod mail;
 mod odd;
 mod scroll;
 
@@ -16,8 +17,9 @@ use calls::{Calls, Checked, Difference};
 use compare::bus::Used;
 use compare::generate::Rng;
 use compare::host::{
-    Beside, APPLY_ANSWER, BUS_ANSWER, EFFECT, EFFECT_MOST, LATCH_ANSWER, ROW_ANSWER, SCROLL,
-    SETTINGS_MOST, SHEET_ANSWER, SHIFT_ANSWER, START_ANSWER, STATE, STATE_MOST, TOTALS, UNFIT,
+    Beside, APPLY_ANSWER, BUS_ANSWER, EFFECT, EFFECT_MOST, LATCH_ANSWER, MAIL_ANSWER, ROW_ANSWER,
+    SCROLL, SETTINGS_MOST, SHEET_ANSWER, SHIFT_ANSWER, START_ANSWER, STATE, STATE_MOST, TOTALS,
+    UNFIT,
 };
 use compare::rules::CELLS;
 use frame::Frame;
@@ -124,6 +126,9 @@ fn walk(
             break;
         }
         draw_alone(calls, frame, &drawn, &joined, first[0], &reached)?;
+        if drawn.status == 0 && rng.once_in(10) {
+            mail::row(calls, rng, settings, &drawn.cells)?;
+        }
         reached[0] = rng.word().into();
         calls.effect(settings, memory, &reached, EFFECT)?;
         reached = calls.state.left();
@@ -233,7 +238,7 @@ fn unfit(calls: &mut Calls, rng: &mut Rng, frame: &Frame, real: &[u32; STATE]) -
         screen: 0,
         row: 0,
     };
-    let status = match rng.below(27) {
+    let status = match rng.below(31) {
         0 => calls.sheet(&bad_settings, SHEET_ANSWER),
         1 => calls.sheet(settings, odd::count(rng, SHEET_ANSWER)),
         2 => calls.start(&bad_settings, memory, latch, STATE, START_ANSWER),
@@ -290,7 +295,16 @@ fn unfit(calls: &mut Calls, rng: &mut Rng, frame: &Frame, real: &[u32; STATE]) -
             let answers = odd::count(rng, BUS_ANSWER);
             calls.bus(bus::register(rng), &used, &totals, answers)
         }
-        25 => {
+        25 => calls.write_mail(
+            &bad_settings,
+            &[0; CELLS][..cells.min(CELLS)],
+            400,
+            MAIL_ANSWER,
+        ),
+        26 => calls.write_mail(settings, &[0; CELLS], 400, odd::count(rng, MAIL_ANSWER)),
+        27 => calls.read_mail(b"\x1B[0mA\x1B[0m\n", 1, odd::count(rng, MAIL_ANSWER)),
+        28 => calls.read_mail(b"", 0, odd::count(rng, MAIL_ANSWER)),
+        29 => {
             let mut totals = bus::totals(rng);
             totals[6] = rng.draw() + 2;
             calls.bus(bus::register(rng), &used, &totals, BUS_ANSWER)
@@ -334,6 +348,7 @@ fn compare(calls: &mut Calls, rng: &mut Rng, frame: &Frame) -> Checked<()> {
     odd_states(calls, rng, frame, &real)?;
     odd_effects(calls, rng)?;
     bus::lists(calls, rng)?;
+    mail::odd(calls, rng, &frame.settings)?;
     for _ in 0..8 {
         unfit(calls, rng, frame, &rng.clone().pick(&real))?;
     }

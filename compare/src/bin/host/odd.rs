@@ -207,7 +207,12 @@ pub fn scroll(rng: &mut Rng) -> [u32; SCROLL] {
 
 /// A count other than the right one.
 pub fn count(rng: &mut Rng, right: usize) -> usize {
-    rng.pick(&[0, 1, right - 1, right + 1, 2 * right])
+    let wrong = rng.pick(&[0, 1, right - 1, right + 1, 2 * right]);
+    if wrong == right {
+        0
+    } else {
+        wrong
+    }
 }
 
 /// The numbers with one too high for its place, or with another count.

@@ -1,0 +1,4 @@
+pub mod Mail
+pub mod Write
+pub mod Answers
+pub mod Texts
