@@ -1,4 +1,5 @@
 pub mod Good
 pub mod Timing
 pub mod Sheet
+pub mod Fields
 pub mod Answers
