@@ -15,7 +15,7 @@ use Rattle.settings.specs.declared.Sheet.{Sheet}
 use Rattle.settings.specs.Good.{good, fitsFields, fitsMode}
 use Rattle.settings.specs.Timing.{timing, halfLines}
 use Rattle.settings.specs.Sheet.{sheetOf}
-use Rattle.settings.specs.Fields.{fieldAt, partsOf, afterFields, past}
+use Rattle.settings.specs.AfterEnable.{fieldAt, partsOf, afterFields, past}
 use Rattle.settings.proofs.GoodLaws.{left-true, right-true}
 
 odd-field : (σ : Settings) → fitsFields σ ≡ true → (σ .vsw + σ .vtot + 2) % 2 ≡ 1

@@ -8,7 +8,7 @@ ghost use Rattle.memory.specs.Reading.{runFrom};
 ghost use Rattle.settings.specs.Good.{good, inRange, shownColumns, inOrder, fitsFields, fitsMode, fitsMask, fitsDisplay, fitsEdition, checkSettings, Ordered};
 ghost use Rattle.settings.specs.Timing.{halfLines, parity, added, timing, linesForRows, clocks, invokingCodes};
 ghost use Rattle.settings.specs.Sheet.{sheetOf, sheetCall};
-ghost use Rattle.settings.specs.Fields.{fieldAt, partsOf};
+ghost use Rattle.settings.specs.AfterEnable.{fieldAt, partsOf};
 ghost use Rattle.settings.specs.Answers.{settingsChecked};
 
 // The interlace mode: none, repeat field (RFI) or video (IV).
