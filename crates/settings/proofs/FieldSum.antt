@@ -59,3 +59,8 @@ module _ (σ : Settings) (field : Field) where
       of-none : (edition : Edition) → added edition Progressive field ≡ 1
       of-none Am8052 = refl
       of-none Z8052 = refl
+
+-- .. and both fields are the same
+pub fields-alike : (σ : Settings) → added (σ .edition) (σ .interlace) Even ≡ added (σ .edition) (σ .interlace) Odd → timing σ Even ≡ timing σ Odd
+unfolding timing
+fields-alike σ e = rw e

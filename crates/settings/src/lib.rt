@@ -125,7 +125,8 @@ pub fn check_settings(settings: Settings) -> SettingsCheck
     }
 }
 
-// Are the settings good? Every test is made (`&`), so there is one way through.
+// Are the settings good? Every test is made (`&`), so there is one way through; the tests of a mode or an edition are made before its
+// match, so that each stands in the code once and a row's check is compiled in place.
 pub fn is_good(settings: Settings) -> bool
     ensures { λ r. ⌜ r ≡ good settings ⌝ }
 {
@@ -187,10 +188,11 @@ fn fits_mode(s: Settings) -> bool
     ensures { λ r. ⌜ r ≡ fitsMode (s .interlace) s ⌝ }
 {
     let interlace = s.interlace;
+    let fits = fits_fields(s);
     match interlace {
         Interlace::Progressive => true,
-        Interlace::RepeatField => fits_fields(s),
-        Interlace::Video => fits_fields(s),
+        Interlace::RepeatField => fits,
+        Interlace::Video => fits,
     }
 }
 
@@ -207,9 +209,10 @@ fn fits_edition(s: Settings) -> bool
 {
     let edition = s.edition;
     let interlace = s.interlace;
+    let fits = fits_mask(s.flag) & fits_display(interlace, s.htd);
     match edition {
         Edition::Am8052 => true,
-        Edition::Z8052 => fits_mask(s.flag) & fits_display(interlace, s.htd),
+        Edition::Z8052 => fits,
     }
 }
 
@@ -225,10 +228,11 @@ fn fits_mask(flag: u16) -> bool
 fn fits_display(interlace: Interlace, htd: u16) -> bool
     ensures { λ r. ⌜ r ≡ fitsDisplay interlace htd ⌝ }
 {
+    let odd = htd % 2 == 1;
     match interlace {
         Interlace::Progressive => true,
-        Interlace::RepeatField => htd % 2 == 1,
-        Interlace::Video => htd % 2 == 1,
+        Interlace::RepeatField => odd,
+        Interlace::Video => odd,
     }
 }
 

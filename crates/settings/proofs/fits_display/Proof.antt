@@ -3,6 +3,9 @@ use borrow.Author.Needs.{needs}
 use Rattle.settings.proofs.fits_display.Statement.{statement}
 use Rattle.settings.proofs.fits_display.Tie as tie
 
+returns : tie.Need-returns
+returns c = rw (c .enum-told .given .1)
+
 returns-2 : tie.Need-returns-2
 returns-2 c = rw (c .enum-told2 .given .1)
 
@@ -16,6 +19,6 @@ fits-display-spec =
     (λ c. search needs)
     (λ c. search needs)
     (λ c. search needs)
-    (λ c. search needs)
+    returns
     returns-2
     returns-3)
