@@ -248,7 +248,7 @@ fn half_lines(interlace: Interlace, lines: u16) -> u16
     }
 }
 
-// What is added to VSD and to VAL: 1, or 0 in an even field of the Z8052.
+// What is added to VSD and to VAL: 1, or 0 in an interlaced even field of the Z8052.
 fn added(edition: Edition, interlace: Interlace, field: Field) -> u16
     ensures { λ r. ⌜ (r ≡ added edition interlace field) × (r ≤ 1) ⌝ }
 {
