@@ -1,4 +1,4 @@
-/* Rows of an Am8052 screen: the calls of a console, over lent slices of numbers.
+/* Rows of an Am8052 or Z8052 screen: the calls of a console, over lent slices of numbers.
  *
  * A slice is a pointer and its count of elements, one argument after the other. No pointer is null, also where the count is 0. A
  * slice that a call writes (not const) overlaps no other slice of that call.
@@ -31,7 +31,9 @@ enum {
     THAGADUVIN_HSD,
     THAGADUVIN_HTC,
     THAGADUVIN_HTD,
-    THAGADUVIN_SETTINGS    /* 17 numbers */
+    THAGADUVIN_EDITION,    /* 0 Am8052; 1 Z8052: its timing, and refusal 2 for a value bit outside the flag's mask, and for an even HTD when
+                              interlaced */
+    THAGADUVIN_SETTINGS    /* 18 numbers */
 };
 
 /* A state. An accepted start or row writes all of it; it is handed to the next row as it stands. */
@@ -74,20 +76,29 @@ enum {
     THAGADUVIN_ANSWER_ADDRESS  /* the address of a refusal; 0 in an accepted call */
 };
 
-/* The answer of an accepted sheet: half lines, lines for rows, clocks, and how many of the 256 codes invoke an attribute. */
+/* The answer of an accepted sheet: the half lines of an even field and of an odd one, lines for rows, clocks, and how many of the 256 codes
+ * invoke an attribute. The first field after enable is even, the next one odd, and so on. Both have the same half lines but when the
+ * Z8052 is interlaced. Sync, back porch, active and front porch sum to the field. */
 enum {
-    THAGADUVIN_SHEET_SYNC = 2,
-    THAGADUVIN_SHEET_BACK,
-    THAGADUVIN_SHEET_ACTIVE,
-    THAGADUVIN_SHEET_FRONT,
-    THAGADUVIN_SHEET_FIELD,
+    THAGADUVIN_SHEET_EVEN_SYNC = 2,
+    THAGADUVIN_SHEET_EVEN_BACK,
+    THAGADUVIN_SHEET_EVEN_RISE,    /* sync fall to blank rise: back porch and active */
+    THAGADUVIN_SHEET_EVEN_ACTIVE,
+    THAGADUVIN_SHEET_EVEN_FRONT,
+    THAGADUVIN_SHEET_EVEN_FIELD,
+    THAGADUVIN_SHEET_ODD_SYNC,
+    THAGADUVIN_SHEET_ODD_BACK,
+    THAGADUVIN_SHEET_ODD_RISE,
+    THAGADUVIN_SHEET_ODD_ACTIVE,
+    THAGADUVIN_SHEET_ODD_FRONT,
+    THAGADUVIN_SHEET_ODD_FIELD,
     THAGADUVIN_SHEET_LINES,
     THAGADUVIN_SHEET_CLOCKS_SYNC,
     THAGADUVIN_SHEET_CLOCKS_PERIOD,
     THAGADUVIN_SHEET_CLOCKS_RISE,
     THAGADUVIN_SHEET_CLOCKS_FALL,
     THAGADUVIN_SHEET_INVOKING,
-    THAGADUVIN_SHEET_ANSWER    /* 13 numbers */
+    THAGADUVIN_SHEET_ANSWER    /* 20 numbers */
 };
 
 /* The answer of an accepted start: the words read. */

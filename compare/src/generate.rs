@@ -1,7 +1,7 @@
 //! Seeded random cases: settings, structured memories, states, row buffers and scripts,
 //! sound ones and damaged ones.
 
-use crate::rules::{self, Fields, Interlace, Settings, State, Window, CELLS};
+use crate::rules::{self, Edition, Fields, Interlace, Settings, State, Window, CELLS};
 use crate::script;
 
 /// A xorshift generator.
@@ -274,8 +274,13 @@ fn any_interlace(rng: &mut Rng) -> Interlace {
     ])
 }
 
+fn any_edition(rng: &mut Rng) -> Edition {
+    rng.pick(&[Edition::Am8052, Edition::Am8052, Edition::Z8052])
+}
+
 /// Good settings with all but TOP and TOW.
 fn good_settings(rng: &mut Rng, shape: &Shape) -> Settings {
+    let edition = any_edition(rng);
     let interlace = any_interlace(rng);
     let interlaced = interlace != Interlace::None;
     let mut lines = rng.range(1, shape.lines.max(2));
@@ -301,7 +306,10 @@ fn good_settings(rng: &mut Rng, shape: &Shape) -> Settings {
         1 => 1,
         _ => rng.range(1, shape.columns),
     };
-    let hsd = rng.below(512);
+    let mut hsd = rng.below(512);
+    if interlaced && edition == Edition::Z8052 && (hsd + columns).is_multiple_of(2) {
+        hsd ^= 1;
+    }
     let htd = hsd + columns;
     let mut htc = rng.pick(&[htd, htd + 1, 1023]);
     if interlaced {
@@ -318,7 +326,7 @@ fn good_settings(rng: &mut Rng, shape: &Shape) -> Settings {
         0x00,
         rng.0 as u16 & 0xFF,
     ]);
-    let value = if rng.once_in(3) {
+    let value = if edition == Edition::Am8052 && rng.once_in(3) {
         rng.word() & 0xFF
     } else {
         rng.word() & mask
@@ -339,6 +347,7 @@ fn good_settings(rng: &mut Rng, shape: &Shape) -> Settings {
         hsd: hsd as u16,
         htc: htc as u16,
         htd: htd as u16,
+        edition,
     }
 }
 
@@ -347,7 +356,7 @@ fn good_settings(rng: &mut Rng, shape: &Shape) -> Settings {
 fn damage_settings(rng: &mut Rng, settings: &mut Settings) {
     if rng.once_in(3) {
         let bit = 1 << rng.below(16);
-        match rng.below(8) {
+        match rng.below(10) {
             0 => settings.linear = !settings.linear,
             1 => settings.display_hidden = !settings.display_hidden,
             2 => settings.interlace = any_interlace(rng),
@@ -355,7 +364,9 @@ fn damage_settings(rng: &mut Rng, settings: &mut Settings) {
             4 => settings.top[0] ^= bit,
             5 => settings.top[1] ^= bit,
             6 => settings.tow[0] ^= bit,
-            _ => settings.tow[1] ^= bit,
+            7 => settings.tow[1] ^= bit,
+            8 => settings.edition = any_edition(rng),
+            _ => settings.htd = settings.htd.wrapping_sub(1),
         }
         return;
     }

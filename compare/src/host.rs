@@ -4,7 +4,8 @@
 use crate::bus::{Largest, Taken, Totals, Used};
 use crate::mail;
 use crate::rules::{
-    self, Effect, Fields, Interlace, Part, Refusal, Row, Settings, Sheet, State, Window,
+    self, Edition, Effect, Field, Fields, Interlace, Part, Refusal, Row, Settings, Sheet, State,
+    Window,
 };
 use crate::scroll::{self, Scroll};
 
@@ -12,10 +13,10 @@ use crate::scroll::{self, Scroll};
 pub const UNFIT: u8 = 255;
 
 /// Counts of the slices.
-pub const SETTINGS: usize = 17;
+pub const SETTINGS: usize = 18;
 pub const STATE: usize = 19;
 pub const EFFECT: usize = 10;
-pub const SHEET_ANSWER: usize = 13;
+pub const SHEET_ANSWER: usize = 20;
 pub const START_ANSWER: usize = 3;
 pub const ROW_ANSWER: usize = 7;
 pub const APPLY_ANSWER: usize = 3;
@@ -31,7 +32,7 @@ const ANY: u32 = u32::MAX;
 /// The highest number that each place can have.
 pub const SETTINGS_MOST: [u32; SETTINGS] = [
     1, 1, 2, 1, 0xFFFF, 0xFFFF, 0xFFFF, 0xFFFF, 0xFFFF, 0xFFFF, 0xFFFF, 0xFFFF, 0xFFFF, 0xFFFF,
-    0xFFFF, 0xFFFF, 0xFFFF,
+    0xFFFF, 0xFFFF, 0xFFFF, 1,
 ];
 pub const STATE_MOST: [u32; STATE] = [
     0xFFFF, 0xFFFF, 0xFFFF, 255, 255, 255, 1, 255, 0xFFFF, 255, 255, ANY, 1, 255, 255, 255, 255,
@@ -76,6 +77,10 @@ fn settings_of(numbers: &[u32]) -> Option<Settings> {
         hsd: n[14] as u16,
         htc: n[15] as u16,
         htd: n[16] as u16,
+        edition: match n[17] {
+            0 => Edition::Am8052,
+            _ => Edition::Z8052,
+        },
     })
 }
 
@@ -157,6 +162,10 @@ pub fn settings_numbers(s: &Settings) -> [u32; SETTINGS] {
         s.hsd.into(),
         s.htc.into(),
         s.htd.into(),
+        match s.edition {
+            Edition::Am8052 => 0,
+            Edition::Z8052 => 1,
+        },
     ]
 }
 
@@ -220,22 +229,35 @@ fn refuse(refusal: Refusal, answer: &mut [u32]) -> u8 {
     refusal.number
 }
 
-fn sheet_numbers(sheet: &Sheet) -> [u32; SHEET_ANSWER] {
+fn field_numbers(field: &Field) -> [u32; 6] {
     [
-        0,
-        0,
-        sheet.sync,
-        sheet.back,
-        sheet.active,
-        sheet.front,
-        sheet.field,
+        field.sync,
+        field.back,
+        field.rise,
+        field.active,
+        field.front,
+        field.field,
+    ]
+}
+
+/// Places of a sheet's answer: the two fields' parts, and the lines for rows.
+pub const SHEET_EVEN: usize = 2;
+pub const SHEET_ODD: usize = SHEET_EVEN + 6;
+pub const SHEET_LINES: usize = SHEET_ODD + 6;
+
+fn sheet_numbers(sheet: &Sheet) -> [u32; SHEET_ANSWER] {
+    let mut numbers = [0; SHEET_ANSWER];
+    numbers[SHEET_EVEN..SHEET_ODD].copy_from_slice(&field_numbers(&sheet.even));
+    numbers[SHEET_ODD..SHEET_LINES].copy_from_slice(&field_numbers(&sheet.odd));
+    numbers[SHEET_LINES..].copy_from_slice(&[
         sheet.lines,
         sheet.horizontal_sync,
         sheet.horizontal_period,
         sheet.blank_rise,
         sheet.blank_fall,
         sheet.invoking,
-    ]
+    ]);
+    numbers
 }
 
 #[inline]

@@ -535,6 +535,13 @@ fn good(s: &Settings) -> bool {
             return false;
         }
     }
+    if s.edition == crate::rules::Edition::Z8052 {
+        let outside = (0..8).any(|bit| s.flag >> bit & 1 == 1 && s.flag >> (8 + bit) & 1 == 0);
+        let even = s.interlace != crate::rules::Interlace::None && s.htd.is_multiple_of(2);
+        if outside || even {
+            return false;
+        }
+    }
     s.vsd < s.val
         && s.val <= s.vtot
         && s.hsync < s.htc

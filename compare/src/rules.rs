@@ -26,6 +26,13 @@ pub enum Interlace {
     Video,
 }
 
+/// Whose part it is: this decides the timing of interlaced fields, and what good settings are.
+#[derive(Clone, Copy, Debug, PartialEq, Eq)]
+pub enum Edition {
+    Am8052,
+    Z8052,
+}
+
 #[derive(Clone, Copy, Debug, PartialEq, Eq)]
 pub struct Settings {
     pub linear: bool,
@@ -44,16 +51,27 @@ pub struct Settings {
     pub hsd: u16,
     pub htc: u16,
     pub htd: u16,
+    pub edition: Edition,
 }
 
-/// The settings sheet. Vertical times are in half lines, horizontal ones in clocks.
+/// The parts of a field in half lines.
 #[derive(Clone, Copy, Debug, PartialEq, Eq)]
-pub struct Sheet {
+pub struct Field {
     pub sync: u32,
     pub back: u32,
+    /// From the fall of sync to the rise of blank.
+    pub rise: u32,
     pub active: u32,
     pub front: u32,
     pub field: u32,
+}
+
+/// The settings sheet. Horizontal times are in clocks.
+#[derive(Clone, Copy, Debug, PartialEq, Eq)]
+pub struct Sheet {
+    /// The first field after enable, and every other one from there on.
+    pub even: Field,
+    pub odd: Field,
     /// Scan lines for rows.
     pub lines: u32,
     pub horizontal_sync: u32,
@@ -156,9 +174,22 @@ impl Settings {
             && self.hsd < self.htd
             && self.htd <= self.htc
             && usize::from(self.htd - self.hsd) <= CELLS;
-        let parity = self.interlace == Interlace::None
+        let parity = !self.interlaced()
             || (self.vsw & self.vsd & self.val & self.htc & 1 == 1 && self.vtot & 1 == 0);
-        ranges && order && parity
+        ranges && order && parity && self.good_in_edition()
+    }
+
+    fn interlaced(&self) -> bool {
+        self.interlace != Interlace::None
+    }
+
+    /// What the second edition asks beside the first one's conditions.
+    fn good_in_edition(&self) -> bool {
+        let [mask, value] = self.flag.to_be_bytes();
+        match self.edition {
+            Edition::Am8052 => true,
+            Edition::Z8052 => value & !mask == 0 && (self.htd & 1 == 1 || !self.interlaced()),
+        }
     }
 
     /// Scan lines for rows, of good settings.
@@ -201,6 +232,27 @@ pub fn step(linear: bool, address: u32) -> u32 {
     }
 }
 
+/// The parts of an even or odd field, of good settings.
+fn field(settings: &Settings, odd: bool) -> Field {
+    let (vsw, vsd) = (u32::from(settings.vsw), u32::from(settings.vsd));
+    let (val, vtot) = (u32::from(settings.val), u32::from(settings.vtot));
+    let times = if settings.interlaced() { 1 } else { 2 };
+    // The second edition's even fields are half a line earlier.
+    let earlier = settings.edition == Edition::Z8052 && settings.interlaced() && !odd;
+    let earlier = u32::from(earlier);
+    let sync = times * (vsw + 1);
+    let rise = times * (val + 1) - earlier;
+    let field = times * (vsw + vtot + 2);
+    Field {
+        sync,
+        back: times * (vsd + 1) - earlier,
+        rise,
+        active: times * (val - vsd),
+        front: field - sync - rise,
+        field,
+    }
+}
+
 /// The settings sheet, or refusal 2.
 pub fn sheet(settings: &Settings) -> Result<Sheet, Refusal> {
     if !settings.good() {
@@ -210,20 +262,10 @@ pub fn sheet(settings: &Settings) -> Result<Sheet, Refusal> {
             address: 0,
         });
     }
-    let times = if settings.interlace == Interlace::None {
-        2
-    } else {
-        1
-    };
     let [mask, _] = settings.flag.to_be_bytes();
-    let (vsw, vsd) = (u32::from(settings.vsw), u32::from(settings.vsd));
-    let (val, vtot) = (u32::from(settings.val), u32::from(settings.vtot));
     Ok(Sheet {
-        sync: times * (vsw + 1),
-        back: times * (vsd + 1),
-        active: times * (val - vsd),
-        front: times * (vtot - val),
-        field: times * (vsw + vtot + 2),
+        even: field(settings, false),
+        odd: field(settings, true),
         lines: settings.lines(),
         horizontal_sync: u32::from(settings.hsync) + 1,
         horizontal_period: u32::from(settings.htc) + 1,

@@ -1,6 +1,6 @@
 //! The draw program: reads a script and gives its whole output.
 
-use crate::rules::{self, Interlace, Refusal, Settings, CELLS};
+use crate::rules::{self, Edition, Interlace, Refusal, Settings, CELLS};
 use std::io::Write;
 
 /// Words of memory in the draw program.
@@ -23,6 +23,7 @@ pub const UNSET: Settings = Settings {
     hsd: 0,
     htc: 0,
     htd: 0,
+    edition: Edition::Am8052,
 };
 
 /// What a script sets up.

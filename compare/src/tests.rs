@@ -3,8 +3,8 @@
 use crate::generate::{self, Case, Rng, Shape};
 use crate::plain;
 use crate::rules::{
-    self, effect, invokes, pointer, row, sheet, start, step, Effect, Fields, Interlace, Part,
-    Refusal, Row, Settings, State, CELLS,
+    self, effect, invokes, pointer, row, sheet, start, step, Edition, Effect, Field, Fields,
+    Interlace, Part, Refusal, Row, Settings, Sheet, State, CELLS,
 };
 use crate::script::{self, UNSET};
 use crate::vectors::{self, sheet_s};
@@ -204,33 +204,163 @@ fn p5_p6_rows_of_s() {
 fn p7_timing_of_s() {
     let s = script::parse(&sheet_s()).unwrap();
     let got = sheet(&s.settings).unwrap();
-    assert_eq!(
-        (got.sync, got.back, got.active, got.front, got.field),
-        (2, 2, 32, 8, 44)
-    );
+    assert_eq!(parts(&got.even), [2, 2, 34, 32, 8, 44]);
+    assert_eq!(got.even, got.odd);
     assert_eq!(got.lines, 16);
     assert_eq!((got.horizontal_sync, got.horizontal_period), (1, 8));
     assert_eq!((got.blank_rise, got.blank_fall), (6, 2));
     assert_eq!(got.invoking, 128);
 }
 
+/// Sync, back porch, sync fall to blank rise, active, front porch and the field's length.
+fn parts(field: &Field) -> [u32; 6] {
+    [
+        field.sync,
+        field.back,
+        field.rise,
+        field.active,
+        field.front,
+        field.field,
+    ]
+}
+
+/// P8's settings.
+const P8: Settings = Settings {
+    interlace: Interlace::Video,
+    vsw: 5,
+    vsd: 33,
+    val: 513,
+    vtot: 518,
+    htc: 99,
+    htd: 80,
+    ..UNSET
+};
+
+/// The second edition: P8's settings with an odd HTD, in both fields.
+#[test]
+fn second_edition_interlaced() {
+    for interlace in [Interlace::Video, Interlace::RepeatField] {
+        let settings = Settings {
+            interlace,
+            htd: 81,
+            edition: Edition::Z8052,
+            ..P8
+        };
+        let got = sheet(&settings).unwrap();
+        assert_eq!(parts(&got.even), [6, 33, 513, 480, 6, 525]);
+        assert_eq!(parts(&got.odd), [6, 34, 514, 480, 5, 525]);
+        let first = Settings {
+            edition: Edition::Am8052,
+            ..settings
+        };
+        let Sheet { even, odd, .. } = sheet(&first).unwrap();
+        assert_eq!(parts(&even), [6, 34, 514, 480, 5, 525]);
+        // Nothing else differs: lines for rows, clocks, invoking codes.
+        assert_eq!(sheet(&first), Ok(Sheet { even, odd, ..got }));
+    }
+}
+
+/// Mode none is as in the first edition.
+#[test]
+fn second_edition_without_interlace() {
+    let s = script::parse(&sheet_s()).unwrap().settings;
+    let second = Settings {
+        edition: Edition::Z8052,
+        ..s
+    };
+    assert_eq!(sheet(&second), sheet(&s));
+}
+
+#[test]
+fn second_edition_refuses() {
+    let second = Settings {
+        edition: Edition::Z8052,
+        ..P8
+    };
+    let number = |settings: &Settings| sheet(settings).map_err(|refusal| refusal.number);
+    // An even HTD, interlaced only.
+    assert_eq!(number(&second), Err(2));
+    let none = Settings {
+        interlace: Interlace::None,
+        ..second
+    };
+    assert!(sheet(&none).is_ok());
+    // Value bits outside the mask, in every mode.
+    for interlace in [Interlace::None, Interlace::RepeatField, Interlace::Video] {
+        for (flag, good) in [
+            (0x0000, true),
+            (0x8080, true),
+            (0xFFFF, true),
+            (0x8000, true),
+            (0x8081, false),
+            (0x0001, false),
+            (0x7F80, false),
+        ] {
+            let second = Settings {
+                interlace,
+                flag,
+                htd: 81,
+                ..second
+            };
+            assert_eq!(number(&second).is_ok(), good, "{flag:04X}");
+            assert!(sheet(&Settings {
+                edition: Edition::Am8052,
+                ..second
+            })
+            .is_ok());
+        }
+    }
+    // In each call that judges settings.
+    let board = Board::new(0x20);
+    let bad = Settings {
+        flag: 0x8081,
+        edition: Edition::Z8052,
+        ..wide()
+    };
+    let state = start(&wide(), &board.memory, 0).unwrap().state;
+    assert_eq!(start(&bad, &board.memory, 0).unwrap_err().number, 2);
+    let drawn = row(&bad, &board.memory, &mut state.clone(), &mut [0; CELLS]);
+    assert_eq!(drawn.unwrap_err().number, 2);
+    let (made, next) = effect(&bad, &board.memory, &state.fields);
+    assert_eq!((made.clear, next), (made.set, None));
+    assert!(matches!(
+        made.clear,
+        Part::Refuse(Refusal { number: 2, .. })
+    ));
+    let mut text = [0; 400];
+    let written = crate::mail::write(&bad, &[0; CELLS], &mut text);
+    assert_eq!(written.unwrap_err().number, 2);
+}
+
+/// Both editions, all modes and both fields: the parts make the field, and an interlaced one ends on a half line.
+#[test]
+fn fields_of_both_editions() {
+    let mut rng = Rng::new(9);
+    let mut interlaced = 0;
+    for _ in 0..20_000 {
+        let settings = generate::case(&mut rng, &Shape::words(100)).settings;
+        let Ok(sheet) = sheet(&settings) else {
+            continue;
+        };
+        for field in [sheet.even, sheet.odd] {
+            let [sync, back, rise, active, front, length] = parts(&field);
+            assert_eq!(sync + back + active + front, length);
+            assert_eq!(rise, back + active);
+            let half = settings.interlace != Interlace::None;
+            assert_eq!(length % 2 == 1, half);
+            interlaced += u32::from(half && settings.edition == Edition::Z8052);
+        }
+        assert_eq!((sheet.even.field + sheet.odd.field) % 2, 0);
+    }
+    assert!(interlaced > 2_000);
+}
+
 #[test]
 fn p8_timing_interlaced_video() {
-    let settings = Settings {
-        interlace: Interlace::Video,
-        vsw: 5,
-        vsd: 33,
-        val: 513,
-        vtot: 518,
-        htc: 99,
-        htd: 80,
-        ..UNSET
-    };
+    let settings = P8;
     let got = sheet(&settings).unwrap();
-    assert_eq!(
-        (got.sync, got.back, got.active, got.front, got.field),
-        (6, 34, 480, 5, 525)
-    );
+    assert_eq!(parts(&got.even), [6, 34, 514, 480, 5, 525]);
+    assert_eq!(got.even, got.odd);
     assert_eq!(got.lines, 480);
     assert_eq!(got.invoking, 256);
     let half = Settings {

@@ -10,7 +10,8 @@ use Rattle.row.specs.declared.DrawnRow.{DrawnRow}
 -- follows.
 unfoldable pub sheetNumbers : Sheet → List ℕ
 sheetNumbers t =
-    0 ∷ 0 ∷ t .timing .sync ∷ t .timing .back ∷ t .timing .active ∷ t .timing .front ∷ t .timing .field ∷ t .lines
+    0 ∷ 0 ∷ t .even .sync ∷ t .even .back ∷ t .even .rise ∷ t .even .active ∷ t .even .front ∷ t .even .field
+    ∷ t .odd .sync ∷ t .odd .back ∷ t .odd .rise ∷ t .odd .active ∷ t .odd .front ∷ t .odd .field ∷ t .lines
     ∷ t .clocks .sync ∷ t .clocks .period ∷ t .clocks .rise ∷ t .clocks .fall ∷ t .invoking ∷ []
 
 -- the words of a start; the latch that an effect makes

@@ -9,19 +9,27 @@ ghost use lib.ListN.{length};
 ghost use Rattle.answers.specs.AnswerNumbers.{sheetNumbers, oneNumber, rowNumbers, withRefusal};
 
 pub fn write_sheet(sheet: Sheet, into: &mut [u32])
-    requires { ⌜ length (now into) ≡ 13 ⌝ }
+    requires { ⌜ length (now into) ≡ 20 ⌝ }
     ensures { λ _. ⌜ now (into .exit) ≡ sheetNumbers sheet ⌝ }
 {
-    let t = sheet.timing;
+    let e = sheet.even;
+    let o = sheet.odd;
     let c = sheet.clocks;
     let numbers = [
         0,
         0,
-        t.sync as u32,
-        t.back as u32,
-        t.active as u32,
-        t.front as u32,
-        t.field as u32,
+        e.sync as u32,
+        e.back as u32,
+        e.rise as u32,
+        e.active as u32,
+        e.front as u32,
+        e.field as u32,
+        o.sync as u32,
+        o.back as u32,
+        o.rise as u32,
+        o.active as u32,
+        o.front as u32,
+        o.field as u32,
         sheet.lines as u32,
         c.sync as u32,
         c.period as u32,

@@ -14,7 +14,7 @@ ghost use Rattle.answers.specs.AfterCall.{answered, afterSheet, stated, 
 pub mod encode; // answers as numbers
 
 pub fn sheet(settings: Settings, answer: &mut [u32]) -> u8
-    requires { ⌜ length (now answer) ≡ 13 ⌝ }
+    requires { ⌜ length (now answer) ≡ 20 ⌝ }
     ensures { λ r. ⌜ answered r (now (answer .exit)) ≡ afterSheet (now (answer .entry)) (sheetCall settings) ⌝ }
 {
     match settings::settings_sheet(settings) {

@@ -72,6 +72,7 @@ withTop σ top = record {
   hsd = σ .hsd;
   htc = σ .htc;
   htd = σ .htd;
+  edition = σ .edition;
 }
 
 -- its count is "every word read", the start's and the row's

@@ -9,6 +9,7 @@ use lib.Seq.{length-take-le}
 use borrow.Author.Tests.{lt-ltb, le-leb}
 use Rattle.memory.proofs.ReadBounds.{if-cases}
 use Rattle.codes.specs.Attribute.{codeOf, attributeOf}
+use Rattle.settings.specs.declared.Edition.the-variants.{Am8052}
 use Rattle.settings.specs.declared.Interlace.the-variants.{Progressive}
 use Rattle.settings.specs.declared.Settings.{Settings}
 use Rattle.settings.specs.Good.{good, shownColumns}
@@ -62,6 +63,7 @@ showing n = record {
   hsd = 0;
   htc = 132;
   htd = n;
+  edition = Am8052;
 }
 
 pub showing-good : (n : ℕ) → 1 ≤ n → n ≤ 132 → good (showing n) ≡ true

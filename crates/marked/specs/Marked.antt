@@ -9,13 +9,17 @@ use lib.Dec.{eqb}
 use lib.Count.{ones, onesIn}
 use Rattle.memory.specs.Reading.{_>>=_, each, Outcome, given, refused, runFrom, run}
 use Rattle.memory.specs.Address.{to, pointer, nextWord, ahead, words}
+use Rattle.settings.specs.declared.Edition.{Edition}
+use Rattle.settings.specs.declared.Edition.the-variants.{Am8052, Z8052}
 use Rattle.settings.specs.declared.Interlace.{Interlace}
 use Rattle.settings.specs.declared.Interlace.the-variants.{Progressive, RepeatField, Video}
 use Rattle.settings.specs.declared.Settings.{Settings}
+use Rattle.settings.specs.declared.Timing.{Timing}
 use Rattle.settings.specs.declared.SheetAnswer.{SheetAnswer}
 use Rattle.settings.specs.declared.SheetAnswer.the-variants as Sheet
 use Rattle.settings.specs.Good.{inRange, inOrder, fitsFields, fitsMode, good, checkSettings}
 use Rattle.settings.specs.Sheet.{sheetOf, sheetCall}
+use Rattle.settings.specs.AfterEnable.{fieldAt, partsOf}
 use Rattle.settings.specs.Timing.{clocks, halfLines, timing, linesIn, linesForRows, halved, invokingCodes}
 use Rattle.windows.specs.declared.WindowInHand.{WindowInHand}
 use Rattle.windows.specs.declared.WindowInHand.the-variants.{Absent, Present}
@@ -74,10 +78,18 @@ partShown Keep = []
 partShown (Set w) = w ∷ []
 partShown (Refuse r) = r .number ∷ r .row ∷ r .address ∷ []
 
--- the vertical counts of a settings sheet; a refused sheet's number
-times : SheetAnswer → List ℕ
-times (Sheet.Given s) = s .timing .sync ∷ s .timing .back ∷ s .timing .active ∷ s .timing .front ∷ s .timing .field ∷ []
-times (Sheet.Refused r) = r .number ∷ []
+-- sync, back porch, active, front porch, field
+counts : Timing → List ℕ
+counts t = t .sync ∷ t .back ∷ t .active ∷ t .front ∷ t .field ∷ []
+
+-- the vertical counts of field n after enable, by a settings sheet, and its sync fall to blank rise; a refused sheet's number
+times : ℕ → SheetAnswer → List ℕ
+times n (Sheet.Given s) = counts (partsOf s (fieldAt n))
+times n (Sheet.Refused r) = r .number ∷ []
+
+rises : ℕ → SheetAnswer → List ℕ
+rises n (Sheet.Given s) = partsOf s (fieldAt n) .rise ∷ []
+rises n (Sheet.Refused r) = []
 
 -- ---- settings, states and memory ----
 settings : Bool → Bool → ℕ → ℕ → Settings
@@ -97,6 +109,7 @@ settings hidden cursor flag tow = record {
   hsd = 1;
   htc = 7;
   htd = 5;
+  edition = Am8052;
 }
 
 -- sheet S: switches 11h, flag 8080
@@ -179,14 +192,14 @@ two v = page 0x20 (0 ∷ 0 ∷ 2 ∷ 0 ∷ 0 ∷ 0 ∷ 0 ∷ 100 ∷ 0 ∷ 0 ∷
 plain : Settings
 plain = settings false false 0x8080 0
 
--- P8: IV with VSW 5, VSD 33, VAL 513, VTOT 518
-video : Settings
-video = record {
+-- VSW 5, VSD 33, VAL 513, VTOT 518
+timed : Edition → Interlace → ℕ → ℕ → Settings
+timed edition mode flag htd = record {
   linear = true;
   hidden = false;
-  interlace = Video;
+  interlace = mode;
   cursor = false;
-  flag = 0;
+  flag = flag;
   top = record { first = 0; second = 0 };
   tow = record { first = 0; second = 0 };
   vsw = 5;
@@ -196,8 +209,13 @@ video = record {
   hsync = 0;
   hsd = 1;
   htc = 7;
-  htd = 5;
+  htd = htd;
+  edition = edition;
 }
+
+-- P8's are IV, and the same in the second edition
+video : Edition → Settings
+video edition = timed edition Video 0 5
 
 -- P9: codes 41 80 42, L 3, V 2, word A000
 nine : List ℕ
@@ -247,10 +265,21 @@ tests =
     ∷ eqb (handedOn 0 (frame 0 sheetS memoryS)) 0x8002
     ∷ same (cellsFrom 0 4 (rowCall sheetS memoryS (stateOfStart (startCall 0x8002 sheetS memoryS)) buffer)) (0x100241 ∷ 0x500242 ∷ 0x100281 ∷ 0x220 ∷ [])
     ∷ eqb (handedOn 1 (frame 1 plain (two 33))) 1
-    -- P7
-    ∷ same (times (sheetCall sheetS)) (2 ∷ 2 ∷ 32 ∷ 8 ∷ 44 ∷ [])
-    -- P8
-    ∷ same (times (sheetCall video)) (6 ∷ 34 ∷ 480 ∷ 5 ∷ 525 ∷ [])
+    -- P7, in both fields
+    ∷ same (times 0 (sheetCall sheetS)) (2 ∷ 2 ∷ 32 ∷ 8 ∷ 44 ∷ []) ∷ same (times 1 (sheetCall sheetS)) (2 ∷ 2 ∷ 32 ∷ 8 ∷ 44 ∷ [])
+    -- P8, in both fields
+    ∷ same (times 0 (sheetCall (video Am8052))) (6 ∷ 34 ∷ 480 ∷ 5 ∷ 525 ∷ []) ∷ same (times 1 (sheetCall (video Am8052))) (6 ∷ 34 ∷ 480 ∷ 5 ∷ 525 ∷ [])
+    -- 02: P8's settings in the second edition, field 0 even and field 1 odd; sync fall to blank rise there and in the first edition
+    ∷ same (times 0 (sheetCall (video Z8052))) (6 ∷ 33 ∷ 480 ∷ 6 ∷ 525 ∷ []) ∷ same (times 1 (sheetCall (video Z8052))) (6 ∷ 34 ∷ 480 ∷ 5 ∷ 525 ∷ [])
+    ∷ same (rises 0 (sheetCall (video Z8052))) (513 ∷ []) ∷ same (rises 1 (sheetCall (video Z8052))) (514 ∷ []) ∷ same (rises 0 (sheetCall (video Am8052))) (514 ∷ [])
+    -- .. and in mode none
+    ∷ same (times 0 (sheetCall (timed Z8052 Progressive 0 5))) (12 ∷ 68 ∷ 960 ∷ 10 ∷ 1050 ∷ [])
+    -- 02: a value bit outside the mask is 2 in the second edition, in every mode, and good in the first
+    ∷ same (times 0 (sheetCall (timed Z8052 Video 0x8081 5))) (2 ∷ []) ∷ same (times 0 (sheetCall (timed Z8052 Progressive 0x8081 5))) (2 ∷ [])
+    ∷ good (timed Am8052 Video 0x8081 5) ∷ good (timed Z8052 Video 0x8180 5)
+    -- 02: an even HTD when interlaced is 2 in the second edition, in a row too; it is good in mode none and in the first
+    ∷ same (times 0 (sheetCall (timed Z8052 Video 0 4))) (2 ∷ []) ∷ same (shown (rowCall (timed Z8052 RepeatField 0 4) memoryS (at 5 Absent) buffer)) (2 ∷ 5 ∷ 0 ∷ [])
+    ∷ good (timed Z8052 Progressive 0 4) ∷ good (timed Am8052 Video 0 4)
     -- P9
     ∷ same (cellsFrom 0 2 (firstRow plain nine)) (0x100041 ∷ 0x20 ∷ [])
     ∷ same (cellsFrom 0 3 (firstRow (settings true false 0x8080 0) nine)) (0x100041 ∷ 0x100080 ∷ 0x100042 ∷ [])
@@ -286,5 +315,5 @@ tests =
     ∷ []
 
 pub marked : every tests ≡ true
-unfolding same every shownAs shown cellsFrom partShown times settings sheetS memoryS stateAt at stateOfStart wordsOfStart stateAfter buffer firstRow clearPart setPart row0 row1 oddRow padded page one two plain video nine ten twelve windowOn inHand nextShown tests _>>=_ each runFrom pointer nextWord ahead words good checkSettings timing linesForRows clocks halved invokingCodes sheetOf sheetCall ones onesIn mainBlock mainBlockAt segmentOf segmentsOf restOfBlock blockAt rowBlockAt windowRowAt formatOf redefined W.windowOf W.windowAt W.firstWindow W.dueWindow S.windowInRange S.inRange invokes sourceNumber cell width total allFit boundary edgesFit covered onSide segmentsOn windowRow overlaid nextFields backgroundBlock backgroundRow plan taking put character examine wordCodes codes filled fillByWord fillTo segment segmentsTo rowCells row withCursor rowCall topBlock firstFields windowStart startFrom startCall begin step within rest frame outcomeFor effectCall
+unfolding same every shownAs shown cellsFrom partShown counts times rises settings sheetS memoryS stateAt at stateOfStart wordsOfStart stateAfter buffer firstRow clearPart setPart row0 row1 oddRow padded page one two plain timed video nine ten twelve windowOn inHand nextShown tests _>>=_ each runFrom pointer nextWord ahead words good checkSettings timing linesForRows clocks halved invokingCodes sheetOf sheetCall ones onesIn mainBlock mainBlockAt segmentOf segmentsOf restOfBlock blockAt rowBlockAt windowRowAt formatOf redefined W.windowOf W.windowAt W.firstWindow W.dueWindow S.windowInRange S.inRange invokes sourceNumber cell width total allFit boundary edgesFit covered onSide segmentsOn windowRow overlaid nextFields backgroundBlock backgroundRow plan taking put character examine wordCodes codes filled fillByWord fillTo segment segmentsTo rowCells row withCursor rowCall topBlock firstFields windowStart startFrom startCall begin step within rest frame outcomeFor effectCall
 marked = refl

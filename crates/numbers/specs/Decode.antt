@@ -5,6 +5,8 @@ use mathlib.Core.List.{List}
 use lib.Dec.{eqb}
 use Rattle.memory.specs.Word.{if_then_else_, at}
 use Rattle.memory.specs.Address.{to}
+use Rattle.settings.specs.declared.Edition.{Edition}
+use Rattle.settings.specs.declared.Edition.the-variants.{Am8052, Z8052}
 use Rattle.settings.specs.declared.Interlace.{Interlace}
 use Rattle.settings.specs.declared.Interlace.the-variants.{Progressive, RepeatField, Video}
 use Rattle.settings.specs.declared.Settings.{Settings}
@@ -30,6 +32,10 @@ yes n = eqb n 1
 abbrev pub interlaceOf : ℕ → Interlace
 interlaceOf n = if eqb n 0 then Progressive else (if eqb n 1 then RepeatField else Video)
 
+-- edition 0 Am8052 1 Z8052
+abbrev pub editionOf : ℕ → Edition
+editionOf n = if eqb n 0 then Am8052 else Z8052
+
 unfoldable pub settingsAt : List ℕ → Settings
 settingsAt xs = record {
   linear = yes (at xs 0);
@@ -47,6 +53,7 @@ settingsAt xs = record {
   hsd = at xs 14;
   htc = at xs 15;
   htd = at xs 16;
+  edition = editionOf (at xs 17);
 }
 
 -- settings in numbers, or that the numbers are none

@@ -3,6 +3,7 @@ use blocks::Cursor;
 use blocks::FillMode;
 use blocks::RowFormat;
 use memory::Pointer;
+use settings::Edition;
 use settings::Interlace;
 use settings::PointerWords;
 use settings::Settings;
@@ -13,7 +14,7 @@ use windows::WindowBlock;
 use windows::WindowInHand;
 ghost use mathlib.Core.Path.{_≡_};
 ghost use Rattle.numbers.specs.Places.{within, Within, settingsLimits, stateLimits};
-ghost use Rattle.numbers.specs.Decode.{interlaceOf, settingsAt, settingsIn, formatAt, windowAt, fieldsAt, stateAt, stateIn};
+ghost use Rattle.numbers.specs.Decode.{interlaceOf, editionOf, settingsAt, settingsIn, formatAt, windowAt, fieldsAt, stateAt, stateIn};
 
 // Settings, or that the numbers are none: too few, too many, or one that no setting can have.
 pub enum SettingsIn {
@@ -47,6 +48,7 @@ pub fn settings_in(numbers: &[u32]) -> SettingsIn
         65535, // HSD
         65535, // HTC
         65535, // HTD
+        1, // edition
     ];
     if within(&limits, numbers) {
         SettingsIn::Fit(settings_at(numbers))
@@ -116,11 +118,22 @@ fn interlace_of(number: u32) -> Interlace
     }
 }
 
+fn edition_of(number: u32) -> Edition
+    ensures { λ r. ⌜ r ≡ editionOf number ⌝ }
+{
+    if number == 0 {
+        Edition::Am8052
+    } else {
+        Edition::Z8052
+    }
+}
+
 fn settings_at(n: &[u32]) -> Settings
     requires { ⌜ Within settingsLimits (now n) ⌝ }
     ensures { λ r. ⌜ r ≡ settingsAt (now (n .entry)) ⌝ }
 {
     let interlace = interlace_of(n[2]);
+    let edition = edition_of(n[17]);
     let top = PointerWords {
         first: n[5] as u16,
         second: n[6] as u16,
@@ -145,6 +158,7 @@ fn settings_at(n: &[u32]) -> Settings
         hsd: n[14] as u16,
         htc: n[15] as u16,
         htd: n[16] as u16,
+        edition,
     }
 }
 

@@ -1,6 +1,7 @@
 // The frames in memory. Frame 0 has two windows, and a chain of five rows that goes round until the lines run out. Frames 1 to 3
 // end in a row that is refused: by a fill word without bit 15, and only when ignore comes in set; by a missing word; by its
 // widths. Frame 4 goes round the chain of frame 0, from another row and from a latch with ignore set.
+use settings::Edition;
 use settings::Interlace;
 use settings::PointerWords;
 use settings::Settings;
@@ -74,6 +75,7 @@ pub(crate) fn words() -> [u16; 336] {
 
 pub(crate) fn settings(n: u16) -> Settings {
     let interlace = Interlace::Progressive;
+    let edition = Edition::Am8052;
     let top = PointerWords {
         first: 0,
         second: main_block(n),
@@ -98,6 +100,7 @@ pub(crate) fn settings(n: u16) -> Settings {
         hsd: 9,
         htc: 150,
         htd: 141,
+        edition,
     }
 }
 

@@ -7,6 +7,7 @@ use lib.IntN.{pos}
 use lib.ListN.{replicate}
 use Rattle.memory.specs.Reading.{_>>=_, each, runFrom}
 use Rattle.memory.specs.Address.{to, pointer, nextWord, ahead, words}
+use Rattle.settings.specs.declared.Edition.the-variants.{Am8052}
 use Rattle.settings.specs.declared.Interlace.the-variants.{Progressive}
 use Rattle.settings.specs.declared.Settings.{Settings}
 use Rattle.settings.specs.Good.{good, checkSettings}
@@ -50,6 +51,7 @@ settings top tow val = record {
   hsd = 1;
   htc = 7;
   htd = 5;
+  edition = Am8052;
 }
 
 pub plain : Settings

@@ -1,3 +1,4 @@
 pub mod KindLaws
 pub mod FeedLaws
 pub mod ByRecords
+pub mod FirstEdition

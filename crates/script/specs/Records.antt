@@ -49,6 +49,7 @@ switched switches σ = record {
   hsd = σ .hsd;
   htc = σ .htc;
   htd = σ .htd;
+  edition = σ .edition;
 }
 
 -- "Register addresses are 003's; each field is the low bits its range needs (HSYNC in 14h, VSW in 11h), VSD bits 11..6 of
@@ -77,6 +78,7 @@ registered register v σ = record {
   hsd = if eqb register 0x16 then v % 512 else σ .hsd;
   htc = if eqb register 0x17 then v % 1024 else σ .htc;
   htd = if eqb register 0x18 then v % 1024 else σ .htd;
+  edition = σ .edition;
 }
 
 -- "An unknown kind, register above 18h, odd address or one past memory, or interlace 3 prints `refused script at N`"; "Memory

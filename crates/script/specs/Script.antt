@@ -6,6 +6,7 @@ use mathlib.Core.List.{List, [], _∷_}
 use lib.ListN.{length, take, drop, replicate}
 use lib.Dec.{ltb, leb, eqb}
 use Rattle.memory.specs.Word.{if_then_else_}
+use Rattle.settings.specs.declared.Edition.the-variants.{Am8052}
 use Rattle.settings.specs.declared.Interlace.the-variants.{Progressive}
 use Rattle.settings.specs.declared.Settings.{Settings}
 use Rattle.script.specs.Records.{bodyLength, accepted, settingsAfter, memoryAfter}
@@ -15,7 +16,7 @@ pub data Outcome : Type 0 where
   drawn : Settings → List ℕ → Outcome
   refusedAt : ℕ → Outcome
 
--- "Unset is 0."
+-- "Unset is 0." 02: "the draw program are the first edition"
 unfoldable pub unset : Settings
 unset = record {
   linear = false;
@@ -33,6 +34,7 @@ unset = record {
   hsd = 0;
   htc = 0;
   htd = 0;
+  edition = Am8052;
 }
 
 -- "high byte first"

@@ -5,6 +5,7 @@ use mathlib.Core.Bool.{false, true}
 use mathlib.Core.List.{List, [], _∷_, _++_}
 use mathlib.Core.Option.{Option, none, some}
 use lib.ListN.{take, drop}
+use Rattle.settings.specs.declared.Edition.the-variants.{Am8052}
 use Rattle.settings.specs.declared.Interlace.the-variants.{Progressive}
 use Rattle.settings.specs.declared.Settings.{Settings}
 use Rattle.script.specs.Records.{switched, registered, accepted, settingsAfter, memoryAfter}
@@ -48,6 +49,7 @@ settingsS = record {
   hsd = 1;
   htc = 7;
   htd = 5;
+  edition = Am8052;
 }
 
 -- what a script sets, if it draws: its settings and the first seven words of S's main block

@@ -1,4 +1,5 @@
 // The script of the draw program: its records, read byte by byte, set settings and memory.
+use settings::Edition;
 use settings::Interlace;
 use settings::PointerWords;
 use settings::Settings;
@@ -183,6 +184,7 @@ fn set_switches(switches: u64, s: Settings) -> Settings
     ensures { λ r. ⌜ r ≡ switched switches s ⌝ }
 {
     let interlace = interlace_of(switches / 4 % 4);
+    let edition = s.edition;
     let top = s.top;
     let tow = s.tow;
     Settings {
@@ -201,6 +203,7 @@ fn set_switches(switches: u64, s: Settings) -> Settings
         hsd: s.hsd,
         htc: s.htc,
         htd: s.htd,
+        edition,
     }
 }
 
@@ -209,6 +212,7 @@ fn set_register(register: u64, v: u16, s: Settings) -> Settings
     ensures { λ r. ⌜ r ≡ registered register v s ⌝ }
 {
     let interlace = s.interlace;
+    let edition = s.edition;
     let top = PointerWords {
         first: pick(register == 0x09, v, s.top.first),
         second: pick(register == 0x0a, v, s.top.second),
@@ -233,6 +237,7 @@ fn set_register(register: u64, v: u16, s: Settings) -> Settings
         hsd: pick(register == 0x16, v % 512, s.hsd),
         htc: pick(register == 0x17, v % 1024, s.htc),
         htd: pick(register == 0x18, v % 1024, s.htd),
+        edition,
     }
 }
 
@@ -298,5 +303,6 @@ fn no_settings() -> Settings
         hsd: 0,
         htc: 0,
         htd: 0,
+        edition: Edition::Am8052,
     }
 }

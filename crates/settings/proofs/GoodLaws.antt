@@ -5,11 +5,11 @@ use borrow.Author.Tests.{leb-true}
 use Rattle.settings.specs.declared.Settings.{Settings}
 use Rattle.settings.specs.Good.{good, Ordered}
 
-left-true : (a b : Bool) → a && b ≡ true → a ≡ true
+pub left-true : (a b : Bool) → a && b ≡ true → a ≡ true
 left-true true b e = cc
 left-true false b e = e
 
-right-true : (a b : Bool) → a && b ≡ true → b ≡ true
+pub right-true : (a b : Bool) → a && b ≡ true → b ≡ true
 right-true true b e = e
 right-true false b e = cc
 

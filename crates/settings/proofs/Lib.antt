@@ -1,4 +1,5 @@
 pub mod GoodLaws
 pub mod CodeLaws
 pub mod FieldSum
+pub mod FieldEnds
 pub mod CheckLaws

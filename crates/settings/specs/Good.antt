@@ -1,10 +1,14 @@
--- Document 01, "Settings and memory": when settings are good.
+-- Document 01, "Settings and memory", and document 02, §5: when settings are good.
 use Prim.Native.Nat.{ℕ, _-_, _%_, _<_, _≤_}
 use mathlib.Core.Bool.{Bool, true, false, _&&_}
 use lib.Dec.{ltb, leb, eqb}
+use lib.Bits.{bitAnd}
+use Rattle.memory.specs.Word.{high, low}
 use Rattle.memory.specs.Reading.{Reading, check}
 use Rattle.settings.specs.declared.Interlace.{Interlace}
 use Rattle.settings.specs.declared.Interlace.the-variants.{Progressive, RepeatField, Video}
+use Rattle.settings.specs.declared.Edition.{Edition}
+use Rattle.settings.specs.declared.Edition.the-variants.{Am8052, Z8052}
 use Rattle.settings.specs.declared.Settings.{Settings}
 
 -- "interlace 0 none 1 RFI 2 IV": document 01's number of each mode
@@ -44,8 +48,23 @@ fitsMode Progressive σ = true
 fitsMode RepeatField σ = fitsFields σ
 fitsMode Video σ = fitsFields σ
 
+-- 02, of the Z8052: "By 003's notes, flag bits outside the mask, and an even HTD when interlaced, are errors." The first note, which
+-- knows no mode: "When a mask-bit is set to 0, the corresponding value-bit must be 0."
+abbrev pub fitsMask : ℕ → Bool
+fitsMask flag = eqb (bitAnd (low flag) (high flag)) (low flag)
+
+abbrev pub fitsDisplay : Interlace → ℕ → Bool
+fitsDisplay Progressive htd = true
+fitsDisplay RepeatField htd = odd htd
+fitsDisplay Video htd = odd htd
+
+-- "both join 2 in this edition"
+abbrev pub fitsEdition : Edition → Settings → Bool
+fitsEdition Am8052 σ = true
+fitsEdition Z8052 σ = fitsMask (σ .flag) && fitsDisplay (σ .interlace) (σ .htd)
+
 unfoldable pub good : Settings → Bool
-good σ = inRange σ && inOrder σ && fitsMode (σ .interlace) σ
+good σ = inRange σ && inOrder σ && fitsMode (σ .interlace) σ && fitsEdition (σ .edition) σ
 
 -- the checks on settings that a start, a row and an effect begin with. Refusal 2: "settings not good"
 unfoldable pub checkSettings : Settings → Reading (Unit {0})

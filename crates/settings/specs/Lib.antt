@@ -1,4 +1,5 @@
 pub mod Good
 pub mod Timing
 pub mod Sheet
+pub mod AfterEnable
 pub mod Answers

@@ -5,9 +5,10 @@ ghost use mathlib.Core.Path.{_≡_};
 ghost use mathlib.Core.List.{List};
 ghost use Prim.Native.Nat.{ℕ, _-_, _*_, _≤_};
 ghost use Rattle.memory.specs.Reading.{runFrom};
-ghost use Rattle.settings.specs.Good.{good, inRange, shownColumns, inOrder, fitsFields, fitsMode, checkSettings, Ordered};
-ghost use Rattle.settings.specs.Timing.{halfLines, timing, linesForRows, clocks, invokingCodes};
+ghost use Rattle.settings.specs.Good.{good, inRange, shownColumns, inOrder, fitsFields, fitsMode, fitsMask, fitsDisplay, fitsEdition, checkSettings, Ordered};
+ghost use Rattle.settings.specs.Timing.{halfLines, parity, added, timing, linesForRows, clocks, invokingCodes};
 ghost use Rattle.settings.specs.Sheet.{sheetOf, sheetCall};
+ghost use Rattle.settings.specs.AfterEnable.{fieldAt, partsOf};
 ghost use Rattle.settings.specs.Answers.{settingsChecked};
 
 // The interlace mode: none, repeat field (RFI) or video (IV).
@@ -17,6 +18,18 @@ pub enum Interlace {
     Video,
 }
 
+// The timing edition: AMD's part or Zilog's.
+pub enum Edition {
+    Am8052,
+    Z8052,
+}
+
+// The two fields of an interlaced picture.
+pub enum Field {
+    Even,
+    Odd,
+}
+
 // The two words of a pointer that a register holds.
 pub struct PointerWords {
     pub first: u16,
@@ -24,7 +37,7 @@ pub struct PointerWords {
 }
 
 // A desk's settings: linear or segmented memory, Display Hidden, the interlace mode, cursor enable, the attribute flag (mask high
-// byte, value low byte), TOP and TOW, and the numbers of the timing.
+// byte, value low byte), TOP and TOW, the numbers of the timing, and the timing edition.
 pub struct Settings {
     pub linear: bool,
     pub hidden: bool,
@@ -41,12 +54,14 @@ pub struct Settings {
     pub hsd: u16,
     pub htc: u16,
     pub htd: u16,
+    pub edition: Edition,
 }
 
-// Vertical counts, in half lines.
+// Vertical counts of a field, in half lines; `rise` is from the fall of sync to the rise of blank.
 pub struct Timing {
     pub sync: u16,
     pub back: u16,
+    pub rise: u16,
     pub active: u16,
     pub front: u16,
     pub field: u16,
@@ -60,9 +75,10 @@ pub struct Clocks {
     pub fall: u16,
 }
 
-// What the settings sheet gives: `invoking` codes of the 256 invoke an attribute.
+// What the settings sheet gives: the timing of even and of odd fields; `invoking` codes of the 256 invoke an attribute.
 pub struct Sheet {
-    pub timing: Timing,
+    pub even: Timing,
+    pub odd: Timing,
     pub lines: u16,
     pub clocks: Clocks,
     pub invoking: u16,
@@ -91,6 +107,13 @@ pub fn settings_sheet(settings: Settings) -> SheetAnswer
     }
 }
 
+// The timing of field n after enable, counted from 0.
+pub fn field_timing(sheet: Sheet, n: u32) -> Timing
+    ensures { λ r. ⌜ r ≡ partsOf sheet (fieldAt n) ⌝ }
+{
+    if n % 2 == 0 { sheet.even } else { sheet.odd }
+}
+
 // The checks on settings that a start, a row and an effect begin with.
 pub fn check_settings(settings: Settings) -> SettingsCheck
     ensures { λ r. ⌜ ((n : ℕ) (m : List ℕ) → settingsChecked n r ≡ runFrom n m (checkSettings settings)) ⌝ }
@@ -102,11 +125,12 @@ pub fn check_settings(settings: Settings) -> SettingsCheck
     }
 }
 
-// Are the settings good? Every test is made (`&`), so there is one way through.
+// Are the settings good? Every test is made (`&`), so there is one way through; the tests of a mode or an edition are made before its
+// match, so that each stands in the code once and a row's check is compiled in place.
 pub fn is_good(settings: Settings) -> bool
     ensures { λ r. ⌜ r ≡ good settings ⌝ }
 {
-    in_range(settings) & in_order(settings) & fits_mode(settings)
+    in_range(settings) & in_order(settings) & fits_mode(settings) & fits_edition(settings)
 }
 
 // The lines for rows.
@@ -164,10 +188,11 @@ fn fits_mode(s: Settings) -> bool
     ensures { λ r. ⌜ r ≡ fitsMode (s .interlace) s ⌝ }
 {
     let interlace = s.interlace;
+    let fits = fits_fields(s);
     match interlace {
         Interlace::Progressive => true,
-        Interlace::RepeatField => fits_fields(s),
-        Interlace::Video => fits_fields(s),
+        Interlace::RepeatField => fits,
+        Interlace::Video => fits,
     }
 }
 
@@ -176,6 +201,39 @@ fn fits_fields(s: Settings) -> bool
     ensures { λ r. ⌜ r ≡ fitsFields s ⌝ }
 {
     (s.vsw % 2 == 1) & (s.vsd % 2 == 1) & (s.val % 2 == 1) & (s.vtot % 2 == 0) & (s.htc % 2 == 1)
+}
+
+// 003's two notes, which hold for the Z8052.
+fn fits_edition(s: Settings) -> bool
+    ensures { λ r. ⌜ r ≡ fitsEdition (s .edition) s ⌝ }
+{
+    let edition = s.edition;
+    let interlace = s.interlace;
+    let fits = fits_mask(s.flag) & fits_display(interlace, s.htd);
+    match edition {
+        Edition::Am8052 => true,
+        Edition::Z8052 => fits,
+    }
+}
+
+// Has the value of the flag no bit outside its mask?
+fn fits_mask(flag: u16) -> bool
+    ensures { λ r. ⌜ r ≡ fitsMask flag ⌝ }
+{
+    let value = flag % 256;
+    value & (flag / 256) == value
+}
+
+// Is HTD odd when interlaced?
+fn fits_display(interlace: Interlace, htd: u16) -> bool
+    ensures { λ r. ⌜ r ≡ fitsDisplay interlace htd ⌝ }
+{
+    let odd = htd % 2 == 1;
+    match interlace {
+        Interlace::Progressive => true,
+        Interlace::RepeatField => odd,
+        Interlace::Video => odd,
+    }
 }
 
 // The half lines of a count in the timing table: mode none has two for each.
@@ -190,16 +248,42 @@ fn half_lines(interlace: Interlace, lines: u16) -> u16
     }
 }
 
-fn timing_of(s: Settings) -> Timing
+// What is added to VSD and to VAL: 1, or 0 in an interlaced even field of the Z8052.
+fn added(edition: Edition, interlace: Interlace, field: Field) -> u16
+    ensures { λ r. ⌜ (r ≡ added edition interlace field) × (r ≤ 1) ⌝ }
+{
+    match edition {
+        Edition::Am8052 => 1,
+        Edition::Z8052 => match interlace {
+            Interlace::Progressive => 1,
+            Interlace::RepeatField => parity(field),
+            Interlace::Video => parity(field),
+        },
+    }
+}
+
+fn parity(field: Field) -> u16
+    ensures { λ r. ⌜ r ≡ parity field ⌝ }
+{
+    match field {
+        Field::Even => 0,
+        Field::Odd => 1,
+    }
+}
+
+fn timing_of(s: Settings, field: Field) -> Timing
     requires { ⌜ Ordered s ⌝ }
-    ensures { λ r. ⌜ r ≡ timing s ⌝ }
+    ensures { λ r. ⌜ r ≡ timing s field ⌝ }
 {
     let interlace = s.interlace;
+    let edition = s.edition;
+    let more = added(edition, interlace, field);
     Timing {
         sync: half_lines(interlace, s.vsw + 1),
-        back: half_lines(interlace, s.vsd + 1),
+        back: half_lines(interlace, s.vsd + more),
+        rise: half_lines(interlace, s.val + more),
         active: half_lines(interlace, s.val - s.vsd),
-        front: half_lines(interlace, s.vtot - s.val),
+        front: half_lines(interlace, s.vtot + 1 - (s.val + more)),
         field: half_lines(interlace, s.vsw + s.vtot + 2),
     }
 }
@@ -228,10 +312,12 @@ fn sheet_of(s: Settings) -> Sheet
     requires { ⌜ Ordered s ⌝ }
     ensures { λ r. ⌜ r ≡ sheetOf s ⌝ }
 {
-    let timing = timing_of(s);
+    let even = timing_of(s, Field::Even);
+    let odd = timing_of(s, Field::Odd);
     let clocks = clocks_of(s);
     Sheet {
-        timing,
+        even,
+        odd,
         lines: lines_for_rows(s),
         clocks,
         invoking: invoking_codes(s.flag),

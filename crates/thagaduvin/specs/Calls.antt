@@ -25,7 +25,7 @@ sheetFrom answer (Settings-in.Fit σ) = afterSheet answer (sheetCall σ)
 sheetFrom answer Settings-in.Unfit = answered 255 answer
 
 unfoldable pub hostSheet : List ℕ → List ℕ → Answered
-hostSheet settings answer = if eqb (length answer) 13 then sheetFrom answer (settingsIn settings) else answered 255 answer
+hostSheet settings answer = if eqb (length answer) 20 then sheetFrom answer (settingsIn settings) else answered 255 answer
 
 -- a start
 abbrev pub startFrom : List ℕ → ℕ → List ℕ → List ℕ → SettingsIn → Stated

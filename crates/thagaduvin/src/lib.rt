@@ -18,7 +18,7 @@ mod mail_calls; // the calls of a row's text
 pub extern "C" fn thagaduvin_sheet(settings: &[u32], answer: &mut [u32]) -> u8
     ensures { λ r. ⌜ answered r (now (answer .exit)) ≡ hostSheet (now (settings .entry)) (now (answer .entry)) ⌝ }
 {
-    if answer.len() != 13 {
+    if answer.len() != 20 {
         return 255;
     }
     match decode::settings_in(settings) {

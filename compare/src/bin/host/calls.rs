@@ -43,6 +43,9 @@ pub struct Tally {
     parted: u64,
     /// Accepted starts from a latch that is not 0.
     latched: u64,
+    /// Sheets of the second edition, and those of them refused that the first one accepts.
+    second: u64,
+    second_refused: u64,
     pub in_turn: InTurn,
     pub scrolls: Scrolls,
 }
@@ -159,6 +162,15 @@ impl Tally {
         self.count(LINES.len() - 1, status.into());
     }
 
+    fn count_edition(&mut self, settings: &[u32], status: u8) {
+        if let &[ref others @ .., 1] = settings {
+            self.second += 1;
+            let first = [others, &[0]].concat();
+            let accepted = || host::sheet(&first, &mut [0; host::SHEET_ANSWER]) == 0;
+            self.second_refused += u64::from(status == 2 && accepted());
+        }
+    }
+
     fn count_parts(&mut self, effect: &[u32]) {
         let (clear, set) = effect.split_at(5);
         self.count(4, clear[0]);
@@ -181,6 +193,10 @@ impl Tally {
         println!(
             "{calls} calls; {} effects with two parts that differ; {} accepted starts from a latch not 0",
             self.parted, self.latched
+        );
+        println!(
+            "{} sheets of the second edition, {} of these refused that the first one accepts",
+            self.second, self.second_refused
         );
         self.in_turn.print();
         self.scrolls.print();
@@ -248,6 +264,7 @@ impl Calls {
             library::sheet(settings, answer.theirs()),
         ];
         self.tally.count_call(0, statuses[0]);
+        self.tally.count_edition(settings, statuses[0]);
         compare(statuses, &[answer], &("sheet", settings))
     }
 

@@ -5,7 +5,9 @@ use crate::calls::{Calls, Checked};
 use crate::frame::Frame;
 use crate::{must, odd};
 use compare::generate::Rng;
-use compare::host::{LATCH_ANSWER, ROW_ANSWER, SETTINGS, SHEET_ANSWER, START_ANSWER, STATE, UNFIT};
+use compare::host::{
+    LATCH_ANSWER, ROW_ANSWER, SETTINGS, SHEET_ANSWER, SHEET_LINES, START_ANSWER, STATE, UNFIT,
+};
 use compare::rules::CELLS;
 
 /// Frames drawn in turn of one random frame's settings and memory.
@@ -106,7 +108,8 @@ pub fn frame(
     }
     let began: [u32; START_ANSWER] = calls.answer.left();
     let mut words = vec![began[2]];
-    let (end, state) = rows(calls, rng, settings, memory, sheet[7], &mut words)?;
+    let lines = sheet[SHEET_LINES];
+    let (end, state) = rows(calls, rng, settings, memory, lines, &mut words)?;
     let reached = state[0] as u16;
     let handed_on = match end {
         End::Drawn => reached,

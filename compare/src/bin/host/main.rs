@@ -18,8 +18,8 @@ use compare::bus::Used;
 use compare::generate::Rng;
 use compare::host::{
     Beside, APPLY_ANSWER, BUS_ANSWER, EFFECT, EFFECT_MOST, LATCH_ANSWER, MAIL_ANSWER, ROW_ANSWER,
-    SCROLL, SETTINGS_MOST, SHEET_ANSWER, SHIFT_ANSWER, START_ANSWER, STATE, STATE_MOST, TOTALS,
-    UNFIT,
+    SCROLL, SETTINGS, SETTINGS_MOST, SHEET_ANSWER, SHEET_EVEN, SHEET_ODD, SHIFT_ANSWER,
+    START_ANSWER, STATE, STATE_MOST, TOTALS, UNFIT,
 };
 use compare::rules::CELLS;
 use frame::Frame;
@@ -184,6 +184,25 @@ fn odd_states(
     Ok(())
 }
 
+/// A sheet: the parts of each field make its length; one that is interlaced ends on a half line.
+fn sheet(calls: &mut Calls, settings: &[u32; SETTINGS]) -> Checked<()> {
+    if calls.sheet(settings, SHEET_ANSWER)? != 0 {
+        return Ok(());
+    }
+    let answer: [u32; SHEET_ANSWER] = calls.answer.left();
+    for from in [SHEET_EVEN, SHEET_ODD] {
+        let [sync, back, rise, active, front, field] = answer[from..from + 6] else {
+            continue;
+        };
+        let whole = sync + rise + front == field && back + active == rise;
+        must(whole, "a field is its parts", &(settings, answer))?;
+        let half = settings[2] != 0;
+        let right = (field % 2 == 1) == half;
+        must(right, "an interlaced field ends on a half line", settings)?;
+    }
+    Ok(())
+}
+
 /// Sheets, starts and rows of settings changed at random.
 fn odd_settings(
     calls: &mut Calls,
@@ -193,7 +212,7 @@ fn odd_settings(
 ) -> Checked<()> {
     for _ in 0..4 {
         let settings = odd::settings(rng, &frame.settings);
-        calls.sheet(&settings, SHEET_ANSWER)?;
+        sheet(calls, &settings)?;
         let latch = in_turn::latch(rng);
         calls.start(&settings, frame.memory(), latch, STATE, START_ANSWER)?;
         let state = rng.pick(real);
@@ -327,7 +346,7 @@ fn unfit(calls: &mut Calls, rng: &mut Rng, frame: &Frame, real: &[u32; STATE]) -
 
 /// All calls of a frame.
 fn compare(calls: &mut Calls, rng: &mut Rng, frame: &Frame) -> Checked<()> {
-    calls.sheet(&frame.settings, SHEET_ANSWER)?;
+    sheet(calls, &frame.settings)?;
     let latch = in_turn::latch(rng);
     let status = calls.start(&frame.settings, frame.memory(), latch, STATE, START_ANSWER)?;
     let mut real = Vec::new();

@@ -46,6 +46,10 @@ fn up_to(rng: &mut Rng, most: u32) -> u32 {
 /// of the place beside it.
 pub fn settings(rng: &mut Rng, real: &[u32; SETTINGS]) -> [u32; SETTINGS] {
     let mut settings = *real;
+    if rng.once_in(6) {
+        // The second edition.
+        settings[17] = 1;
+    }
     for _ in 0..rng.pick(&[1, 1, 2, 3]) {
         let n = rng.below(SETTINGS);
         settings[n] = match rng.below(6) {
