@@ -27,12 +27,12 @@ in-order b h =
     let i = both (leb (b .top) (b .bottom)) (leb (b .left) (b .right)) (k .0) in
     omega (arith, leb-true (b .top) (b .bottom) (i .0), leb-true (b .left) (b .right) (i .1), leb-true (b .right) 131 (k .1))
 
-pub window-reads : (linear : Bool) (least : ℕ) (p : Pointer) → Reads Placed 6 (windowAt linear least p)
+pub window-reads : (linear : Bool) (number least : ℕ) (p : Pointer) → Reads Placed 6 (windowAt linear number least p)
 unfolding windowAt
-window-reads linear least p =
+window-reads linear number least p =
     if-reads (null p) (λ _. dones tt) λ _.
     bind {n = 6} {k = 0} (omega arith) (words-read linear 6 p) λ b _.
-    let w = windowOf linear b .block in
+    let w = windowOf linear number b .block in
     bind {n = 0} {k = 0} (omega arith) (check-reads 8 (inOrder w && leb least (w .top))) λ _ h.
     dones (in-order w (both (inOrder w) (leb least (w .top)) h .0))
 
@@ -40,4 +40,4 @@ pub due-reads : (linear : Bool) (row : ℕ) (w : WindowInHand) → Placed w → 
 unfolding dueWindow
 due-reads linear row Absent h = dones tt
 due-reads linear row (Present w) h =
-    if-reads (ltb (w .block .bottom) row) (λ _. window-reads linear (w .block .bottom + 1) (w .block .link)) (λ _. dones h)
+    if-reads (ltb (w .block .bottom) row) (λ _. window-reads linear (w .block .number + 1) (w .block .bottom + 1) (w .block .link)) (λ _. dones h)
