@@ -23,14 +23,21 @@ ignores w = bit 13 w
 unfoldable pub sourceNumber : Source → ℕ
 sourceNumber Fill = 0
 sourceNumber Background = 1
-sourceNumber Window = 2
+sourceNumber (Window number) = 2
 
--- "Cell bits: 7..0 code; 18..8 attribute bits 10..0; 19 attribute bit 14; 21..20 source". Bit 22 is `Row.withCursor`.
+-- "In cells of source 2 bits 31..24 hold the window's number along the chain, from 0; elsewhere 0." (02)
+unfoldable pub windowNumber : Source → ℕ
+windowNumber Fill = 0
+windowNumber Background = 0
+windowNumber (Window number) = number
+
+-- "Cell bits: 7..0 code; 18..8 attribute bits 10..0; 19 attribute bit 14; 21..20 source"; 31..24 the window's number. Bit 22 is
+-- `Row.withCursor`.
 unfoldable pub cell : Source → ℕ → ℕ → ℕ
 cell source attribute code =
-    code + attribute % 2 ^ 11 * 2 ^ 8 + attribute / 2 ^ 14 % 2 * 2 ^ 19 + sourceNumber source * 2 ^ 20
+    code + attribute % 2 ^ 11 * 2 ^ 8 + attribute / 2 ^ 14 % 2 * 2 ^ 19 + sourceNumber source * 2 ^ 20 + windowNumber source * 2 ^ 24
 
--- the parts of a cell: its code, the low eleven bits of its attribute, the number of its source
+-- the parts of a cell: its code, the low eleven bits of its attribute, the number of its source, and that of its window
 abbrev pub codeOf : ℕ → ℕ
 codeOf c = c % 2 ^ 8
 
@@ -39,3 +46,6 @@ attributeOf c = c / 2 ^ 8 % 2 ^ 11
 
 abbrev pub sourceOf : ℕ → ℕ
 sourceOf c = c / 2 ^ 20 % 4
+
+abbrev pub windowNumberOf : ℕ → ℕ
+windowNumberOf c = c / 2 ^ 24

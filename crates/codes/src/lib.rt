@@ -12,11 +12,11 @@ pub struct CodeSettings {
     pub flag: u16,
 }
 
-// Where a cell comes from.
+// Where a cell comes from: of a window, its number along the chain.
 pub enum Source {
     Fill,
     Background,
-    Window,
+    Window(u8),
 }
 
 // The room of characters: the source of their cells, and the column that they stand before.

@@ -1,4 +1,5 @@
--- The sum is the definition's, once the source has its number; each part stays below its bits, so nothing wraps.
+-- The sum is the definition's, once the source has its bits; each part stays below its bits, so nothing wraps.
+use native.Mathlib.Omega.{arith}
 use Rattle.codes.specs.Attribute.{cell}
 use borrow.Author.Needs.{needs}
 use Rattle.codes.proofs.attribute.cell.Statement.{statement}
@@ -6,7 +7,7 @@ use Rattle.codes.proofs.attribute.cell.Tie as tie
 
 returns : tie.Need-returns
 unfolding cell
-returns c = rw (c .source-number .ensures .0)
+returns c = omega (arith, c .source-bits .ensures .0)
 
 pub cell-spec : {M : Type 1} → statement M
 cell-spec =
@@ -17,6 +18,5 @@ cell-spec =
     (λ c. search needs)
     (λ c. search needs)
     (λ c κs. search needs)
-    (λ c. search needs)
     (λ c. search needs)
     returns)
