@@ -122,7 +122,7 @@ module _ (l₁ l₂ : ℕ) (same : ignores l₁ ≡ ignores l₂) (σ : CodeSett
     pub cells-keeps : (o : Overlay) (gs : List Segment) → Keeps l₁ l₂ (rowCells σ fill o gs)
     unfolding rowCells
     cells-keeps none gs d e r = segments-keep Background gs 132 d e r
-    cells-keeps (over first end ws) gs d e r =
+    cells-keeps (over number first end ws) gs d e r =
         bind (segments-keep Background _ first d e r) λ d₁ e₁ r₁.
-        bind (segments-keep Window ws end _ _ (with-list l₁ l₂ noList d₁ e₁ r₁)) λ d₂ e₂ r₂.
+        bind (segments-keep (Window number) ws end _ _ (with-list l₁ l₂ noList d₁ e₁ r₁)) λ d₂ e₂ r₂.
         segments-keep Background _ 132 _ _ (list-back l₁ l₂ d₁ e₁ d₂ e₂ r₁ r₂)

@@ -16,7 +16,7 @@ use Rattle.layout.specs.Overlay.{windowRow, overlaid}
 -- an overlay's segments are few, and within its columns
 abbrev pub Inside : Bool → Overlay → Type 0
 Inside hidden none = Unit
-Inside hidden (over first end ws) = Few 15 ws × (first + total hidden ws ≤ end) × (end ≤ 132)
+Inside hidden (over number first end ws) = Few 15 ws × (first + total hidden ws ≤ end) × (end ≤ 132)
 
 pub overlaid-reads : (σ : Settings) (row : ℕ) (w : WindowInHand) → Placed w → Reads (λ o. Inside (σ .hidden) (o .overlay)) 78 (overlaid σ row w)
 unfolding overlaid windowRow

@@ -27,4 +27,4 @@ unfolding startFrom checkSettings windowStart firstWindow firstFields
 start-reads latch σ =
     bind {n = 0} {k = 13} (lit≤ tt) (check-reads 2 (good σ)) λ _ _.
     bind {n = 7} {k = 6} (lit≤ tt) (top-reads (σ .linear) (σ .top)) λ _ _.
-    bind {n = 6} {k = 0} (lit≤ tt) (window-reads (σ .linear) 0 _) λ _ _. dones (refl, refl)
+    bind {n = 6} {k = 0} (lit≤ tt) (window-reads (σ .linear) 0 0 _) λ _ _. dones (refl, refl)
