@@ -22,17 +22,11 @@ ordered : (w : Window) → windowInRange (Present w) ≡ true → (inOrder (w .b
 unfolding windowInRange
 ordered w h = both (inOrder (w .block)) _ (both (inOrder (w .block) && leb (w .block .number) (w .block .top)) _ (both _ (isAddress (w .block .link .address)) h .0) .0)
 
--- a window of a state in range is in order
+-- a window of a state in range is in order, and its number at most its first row
 pub window-placed : (w : WindowInHand) → windowInRange w ≡ true → Placed w
 unfolding windowInRange
 window-placed Absent h = tt
-window-placed (Present w) h = in-order (w .block) (ordered w h .0)
-
--- and its number is at most its first row, so at most its last
-pub window-numbered : (w : WindowInHand) → windowInRange w ≡ true → Numbered w
-window-numbered Absent h = tt
-window-numbered (Present w) h =
-    omega (arith, leb-true (w .block .number) (w .block .top) (ordered w h .1), window-placed (Present w) h)
+window-placed (Present w) h = (in-order (w .block) (ordered w h .0), leb-true (w .block .number) (w .block .top) (ordered w h .1))
 
 pub placed : (f : Fields) → inRange f ≡ true → Placed (f .window)
 unfolding inRange
@@ -40,11 +34,13 @@ placed f h =
     window-placed (f .window)
     (both (leb (f .row + f .left) 4095 && formatInRange (f .format) && isAddress (f .next .address)) (windowInRange (f .window)) h .1)
 
+-- so it is at most its last row
+at-most-last : (w : WindowInHand) → Placed w → Numbered w
+at-most-last Absent h = tt
+at-most-last (Present w) h = omega arith
+
 pub numbered : (f : Fields) → inRange f ≡ true → Numbered (f .window)
-unfolding inRange
-numbered f h =
-    window-numbered (f .window)
-    (both (leb (f .row + f .left) 4095 && formatInRange (f .format) && isAddress (f .next .address)) (windowInRange (f .window)) h .1)
+numbered f h = at-most-last (f .window) (placed f h)
 
 -- a state in range has its lines within 4095
 pub lines-within : (f : Fields) → inRange f ≡ true → f .row + f .left ≤ 4095
