@@ -55,7 +55,8 @@ enum {
     THAGADUVIN_WINDOW_RIGHT, /* last column, 0 to 255 */
     THAGADUVIN_WINDOW_ROW_BLOCK, /* address of its next row block, any number */
     THAGADUVIN_WINDOW_BLOCK, /* address of the next window block, any number */
-    THAGADUVIN_STATE        /* 19 numbers */
+    THAGADUVIN_WINDOW_NUMBER, /* its number along the chain, from 0, 0 to 255 */
+    THAGADUVIN_STATE        /* 20 numbers */
 };
 
 /* A scroll, from one frame to the next. An accepted shift call writes all of it; after reset all are 0. Any numbers may stand here: what
@@ -106,6 +107,8 @@ enum {
     THAGADUVIN_ROW_ANSWER      /* 7 numbers */
 };
 
+/* Bits of a cell: 7..0 code; 18..8 attribute bits 10..0; 19 attribute bit 14; 21..20 source (0 fill, 1 background, 2 window); 22 the
+ * cursor; 31..24 the number of the window along the chain, from 0, where the source is 2, else 0. */
 enum { THAGADUVIN_CELLS = 132 };
 
 /* An effect: its part for a latch with ignore (bit 13) clear, then, 5 places on, the one for a latch with ignore set. A part refuses
