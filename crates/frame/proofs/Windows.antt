@@ -93,7 +93,7 @@ module _ (σ : Settings) (m : List ℕ) (w : Words m) where
       → Chain (p .state .fields .window) (byAnswer go-on p x cells .rows)
   by-answer go-on p (Drawn r q) cells h l k =
       let code : q .state .fields .fill .code < 256 =
-        omega (arith, l, ap (λ (f : FillMode). f .code) (h .fill), ap (λ (s : State). s .fields .fill .code) (h .state)) in
+      omega (arith, l, ap (λ (f : FillMode). f .code) (h .fill), ap (λ (s : State). s .fields .fill .code) (h .state)) in
       next (h .after) (h .placed) (h .named l) (subst (λ (s : State). Chain (s .fields .window) (go-on q .rows)) (h .state) (k q code))
   by-answer go-on p (Ended rows words) cells h l k = end
   by-answer go-on p (Refused r) cells h l k = end
@@ -117,6 +117,7 @@ module _ (σ : Settings) (m : List ℕ) (w : Words m) where
     frame-chain = from-start (run m (startFrom latch σ)) refl
 
 -- ---- of the cells ----
+infixl 20 _∈_
 pub data _∈_ {A : Type 0} (x : A) : List A → Type 0 where
   here : {xs : List A} → x ∈ (x ∷ xs)
   there : {y : A} {xs : List A} → x ∈ xs → x ∈ (y ∷ xs)
