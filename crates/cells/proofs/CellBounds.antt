@@ -20,8 +20,7 @@ use Rattle.layout.proofs.LayoutLaws.{clear, before-total, after-total, sides-le
 use Rattle.layout.proofs.OverlayBounds.{Inside}
 use Rattle.codes.specs.declared.CodeSettings.{CodeSettings}
 use Rattle.codes.specs.declared.Source.{Source}
-use Rattle.codes.specs.declared.Source.the-variants.{Background, Window}
-use Rattle.codes.specs.Attribute.{latches}
+use Rattle.codes.specs.Attribute.{Background, Window, latches}
 use Rattle.codes.specs.Codes.{Drawing, drawing, listAt, noList, withList, taking}
 use Rattle.codes.proofs.CodeBounds.{Even, Inked, At, put-at, codes-read}
 use Rattle.cells.specs.Cells.{codeCount, filled, fillByWord, fillTo, segment, segmentsTo, rowCells}

@@ -10,8 +10,7 @@ use Rattle.blocks.specs.declared.Segment.{Segment}
 use Rattle.layout.specs.Layout.{Overlay, none, over}
 use Rattle.codes.specs.declared.CodeSettings.{CodeSettings}
 use Rattle.codes.specs.declared.Source.{Source}
-use Rattle.codes.specs.declared.Source.the-variants.{Fill, Background, Window}
-use Rattle.codes.specs.Attribute.{latches}
+use Rattle.codes.specs.Attribute.{Fill, Background, Window, latches}
 use Rattle.codes.specs.Codes.{Drawing, drawing, listAt, noList, withList, taking}
 use Rattle.codes.proofs.CodeCells.{Makes, Cells, put-cells, codes-cells}
 use Rattle.cells.specs.Cells.{codeCount, filled, fillByWord, fillTo, segment, segmentsTo, rowCells}

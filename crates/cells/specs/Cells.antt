@@ -14,8 +14,7 @@ use Rattle.layout.specs.declared.Side.the-variants.{Before, After}
 use Rattle.layout.specs.Layout.{width, Overlay, none, over, segmentsOn}
 use Rattle.codes.specs.declared.CodeSettings.{CodeSettings}
 use Rattle.codes.specs.declared.Source.{Source}
-use Rattle.codes.specs.declared.Source.the-variants.{Fill, Background, Window}
-use Rattle.codes.specs.Attribute.{latches, cell}
+use Rattle.codes.specs.Attribute.{Fill, Background, Window, latches, cell}
 use Rattle.codes.specs.Codes.{Drawing, drawing, listAt, noList, withList, taking, put, codes}
 
 -- "With a null code pointer .. L has no meaning and no code is read."

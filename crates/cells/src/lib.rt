@@ -117,7 +117,7 @@ fn walk_cells(
             let stretch = Stretch {
                 settings,
                 fill,
-                source: Source::Background,
+                source: Source { kind: 1, window: 0 },
                 side: Side::Whole,
                 end: 132,
             };
@@ -170,7 +170,7 @@ fn draw_around(
     let before_it = Stretch {
         settings,
         fill,
-        source: Source::Background,
+        source: Source { kind: 1, window: 0 },
         side: Side::Before(first),
         end: first,
     };
@@ -183,7 +183,10 @@ fn draw_around(
             let within = Stretch {
                 settings,
                 fill,
-                source: Source::Window(number),
+                source: Source {
+                    kind: 2,
+                    window: number,
+                },
                 side: Side::Whole,
                 end,
             };
@@ -200,7 +203,7 @@ fn draw_around(
                     let after_it = Stretch {
                         settings,
                         fill,
-                        source: Source::Background,
+                        source: Source { kind: 1, window: 0 },
                         side,
                         end: 132,
                     };

@@ -5,7 +5,6 @@ use lib.Dec.{eqb}
 use lib.Bits.{bitAnd}
 use Rattle.memory.specs.Word.{bit, high, low}
 use Rattle.codes.specs.declared.Source.{Source}
-use Rattle.codes.specs.declared.Source.the-variants.{Fill, Background, Window}
 
 -- "A code invokes an attribute when it equals the value on every bit set in the mask": "mask high byte, value low byte"
 unfoldable pub invokes : ℕ → ℕ → Bool
@@ -19,17 +18,23 @@ latches w = bit 15 w
 abbrev pub ignores : ℕ → Bool
 ignores w = bit 13 w
 
--- "source (0 fill, 1 background, 2 window)"
-unfoldable pub sourceNumber : Source → ℕ
-sourceNumber Fill = 0
-sourceNumber Background = 1
-sourceNumber (Window number) = 2
+-- "source (0 fill, 1 background, 2 window)"; "In cells of source 2 bits 31..24 hold the window's number along the chain, from 0;
+-- elsewhere 0." (02)
+abbrev pub Fill : Source
+Fill = record { kind = 0; window = 0 }
 
--- "In cells of source 2 bits 31..24 hold the window's number along the chain, from 0; elsewhere 0." (02)
+abbrev pub Background : Source
+Background = record { kind = 1; window = 0 }
+
+abbrev pub Window : ℕ → Source
+Window number = record { kind = 2; window = number }
+
+-- the numbers that a source has in a cell, the first in two bits
+unfoldable pub sourceNumber : Source → ℕ
+sourceNumber source = source .kind % 4
+
 unfoldable pub windowNumber : Source → ℕ
-windowNumber Fill = 0
-windowNumber Background = 0
-windowNumber (Window number) = number
+windowNumber source = source .window
 
 -- "Cell bits: 7..0 code; 18..8 attribute bits 10..0; 19 attribute bit 14; 21..20 source"; 31..24 the window's number. Bit 22 is
 -- `Row.withCursor`.

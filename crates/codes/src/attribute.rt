@@ -2,8 +2,7 @@
 use crate::Source;
 ghost use mathlib.Core.Path.{_≡_};
 ghost use mathlib.Core.Bool.{_||_, not};
-ghost use Prim.Native.Nat.{_+_, _*_, _^_, _≤_};
-ghost use Rattle.codes.specs.Attribute.{invokes, ignores, sourceNumber, windowNumber, cell, codeOf, attributeOf};
+ghost use Rattle.codes.specs.Attribute.{invokes, ignores, cell, codeOf, attributeOf};
 
 // Does the code invoke an attribute?
 pub fn invokes(flag: u16, code: u8) -> bool
@@ -27,7 +26,8 @@ pub fn cell(source: Source, attribute: u16, code: u8) -> u32
     code as u32
         + attribute as u32 % 2048 * 256
         + attribute as u32 / 16384 % 2 * 524288
-        + source_bits(source)
+        + source.kind as u32 % 4 * 1048576
+        + source.window as u32 * 16777216
 }
 
 // The code of a cell.
@@ -42,15 +42,4 @@ pub fn attribute_of(cell: u32) -> u16
     ensures { λ r. ⌜ r ≡ attributeOf cell ⌝ }
 {
     (cell / 256 % 2048) as u16
-}
-
-// The bits of a cell that tell where it comes from.
-fn source_bits(source: Source) -> u32
-    ensures { λ r. ⌜ (r ≡ sourceNumber source * 2 ^ 20 + windowNumber source * 2 ^ 24) × (r ≤ 4280287232) ⌝ }
-{
-    match source {
-        Source::Fill => 0,
-        Source::Background => 1048576,
-        Source::Window(number) => 2097152 + number as u32 * 16777216,
-    }
 }

@@ -21,9 +21,8 @@ use Rattle.blocks.specs.declared.FillMode.{FillMode}
 use Rattle.blocks.specs.declared.Segment.{Segment}
 use Rattle.layout.specs.Layout.{width, Overlay, none, over}
 use Rattle.codes.specs.declared.Source.{Source}
-use Rattle.codes.specs.declared.Source.the-variants.{Background, Window}
 use Rattle.codes.specs.declared.AttributeList.{AttributeList}
-use Rattle.codes.specs.Attribute.{invokes, latches, ignores}
+use Rattle.codes.specs.Attribute.{Background, Window, invokes, latches, ignores}
 use Rattle.codes.specs.Codes.{Drawing, drawing, listAt, noList, blank, withList, taking, put, character, examine, wordCodes, codes}
 use Rattle.cells.specs.Cells.{codeCount}
 use Rattle.cells.specs.Cells.{filled, fillTo, segment, segmentsTo, rowCells}

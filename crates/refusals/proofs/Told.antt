@@ -35,8 +35,7 @@ use Rattle.background.specs.Background.{backgroundBlock, backgroundRow}
 use Rattle.plan.specs.Plan.{plan}
 use Rattle.codes.specs.declared.CodeSettings.{CodeSettings}
 use Rattle.codes.specs.declared.Source.{Source}
-use Rattle.codes.specs.declared.Source.the-variants.{Background, Window}
-use Rattle.codes.specs.Attribute.{invokes, latches}
+use Rattle.codes.specs.Attribute.{Background, Window, invokes, latches}
 use Rattle.codes.specs.Codes.{Drawing, examine, wordCodes, codes}
 use Rattle.cells.specs.Cells.{fillByWord, fillTo, segment, segmentsTo, rowCells}
 use Rattle.row.specs.Row.{Row, Called, row, answered, rowCall}

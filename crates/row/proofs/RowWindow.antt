@@ -18,8 +18,7 @@ use Rattle.state.specs.declared.State.{State}
 use Rattle.layout.specs.Layout as Layout
 use Rattle.layout.proofs.OverlayBounds.{OnRow, Shows}
 use Rattle.plan.proofs.PlanBounds.{plan-reads}
-use Rattle.codes.specs.declared.Source.the-variants.{Fill, Background, Window}
-use Rattle.codes.specs.Attribute.{sourceNumber, windowNumber, cell, sourceOf, windowNumberOf}
+use Rattle.codes.specs.Attribute.{Fill, Background, Window, sourceNumber, windowNumber, cell, sourceOf, windowNumberOf}
 use Rattle.codes.specs.Codes.{blank}
 use Rattle.codes.proofs.CellParts.{source-back, window-back}
 use Rattle.codes.proofs.CodeCells.{Makes}

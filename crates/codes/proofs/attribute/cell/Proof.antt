@@ -1,13 +1,13 @@
--- The sum is the definition's, once the source has its bits; each part stays below its bits, so nothing wraps.
-use native.Mathlib.Omega.{arith}
-use Rattle.codes.specs.Attribute.{cell}
+-- The sum is the definition's; each part stays below its bits, so nothing wraps.
+use mathlib.Core.Path.{refl}
+use Rattle.codes.specs.Attribute.{sourceNumber, windowNumber, cell}
 use borrow.Author.Needs.{needs}
 use Rattle.codes.proofs.attribute.cell.Statement.{statement}
 use Rattle.codes.proofs.attribute.cell.Tie as tie
 
 returns : tie.Need-returns
-unfolding cell
-returns c = omega (arith, c .source-bits .ensures .0)
+unfolding cell sourceNumber windowNumber
+returns c = refl
 
 pub cell-spec : {M : Type 1} → statement M
 cell-spec =
@@ -17,6 +17,10 @@ cell-spec =
     (λ c. search needs)
     (λ c. search needs)
     (λ c. search needs)
-    (λ c κs. search needs)
+    (λ c. search needs)
+    (λ c. search needs)
+    (λ c. search needs)
+    (λ c. search needs)
+    (λ c. search needs)
     (λ c. search needs)
     returns)
