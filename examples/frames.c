@@ -39,7 +39,7 @@ static uint16_t frame(int number, uint16_t latch) {
             break; /* a refused row ends the frame */
         if (row[THAGADUVIN_ANSWER_ROW] != 0) continue;
         printf("frame %d:", number);
-        for (int x = 0; x < COLUMNS; x++) printf(" %06X", cells[x]);
+        for (int x = 0; x < COLUMNS; x++) printf(" %08X", cells[x]);
     }
     thagaduvin_latch(latch, state, THAGADUVIN_STATE, handed, THAGADUVIN_LATCH_ANSWER);
     printf(", hands on %04X\n", handed[THAGADUVIN_HANDED_ON]);

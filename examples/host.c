@@ -32,7 +32,7 @@ int main(void) {
         words += answer[THAGADUVIN_ROW_WORDS];
         printf("row %u lines %u attr %03X words %u\n", answer[THAGADUVIN_ANSWER_ROW], answer[THAGADUVIN_ROW_LINES],
                answer[THAGADUVIN_ROW_ATTRIBUTES], answer[THAGADUVIN_ROW_WORDS]);
-        for (uint32_t x = 0; x < columns; x++) printf("%s%06X", x ? " " : "", cells[x]);
+        for (uint32_t x = 0; x < columns; x++) printf("%s%08X", x ? " " : "", cells[x]);
         putchar('\n');
     }
     if (status == 255) puts("numbers that no field can have");

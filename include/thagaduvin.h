@@ -57,7 +57,8 @@ enum {
     THAGADUVIN_WINDOW_RIGHT, /* last column, 0 to 255 */
     THAGADUVIN_WINDOW_ROW_BLOCK, /* address of its next row block, any number */
     THAGADUVIN_WINDOW_BLOCK, /* address of the next window block, any number */
-    THAGADUVIN_STATE        /* 19 numbers */
+    THAGADUVIN_WINDOW_NUMBER, /* its number along the chain, from 0, 0 to 255 */
+    THAGADUVIN_STATE        /* 20 numbers */
 };
 
 /* A scroll, from one frame to the next. An accepted shift call writes all of it; after reset all are 0. Any numbers may stand here: what
@@ -117,6 +118,8 @@ enum {
     THAGADUVIN_ROW_ANSWER      /* 7 numbers */
 };
 
+/* Bits of a cell: 7..0 code; 18..8 attribute bits 10..0; 19 attribute bit 14; 21..20 source (0 fill, 1 background, 2 window); 22 the
+ * cursor; 31..24 the number of the window along the chain, from 0, where the source is 2, else 0. */
 enum { THAGADUVIN_CELLS = 132 };
 
 /* The answer of a writer or a reader of a row's text: the text's length, or the count of cells; of refusal 24 the offset. */

@@ -867,6 +867,7 @@ impl Frame {
                 last_column: if whole { 131 } else { last_column as u32 },
                 next_row: block(rng, &self.window_rows),
                 next_block: block(rng, &self.windows),
+                number: rng.pick(&[0, 0, from, rng.clone().below(from + 1)]) as u32,
             })
         };
         let mut state = State {
@@ -907,8 +908,10 @@ fn damage_state(rng: &mut Rng, fields: &mut Fields) {
         7 => fields.lines_left = 0,
         _ => {
             if let Some(window) = &mut fields.window {
-                match rng.below(6) {
+                match rng.below(8) {
                     0 => window.first_row = window.last_row + 1,
+                    6 => window.number = window.first_row + 1,
+                    7 => window.number = rng.pick(&[window.first_row, 255, 256, u32::MAX]),
                     1 => window.last_row = rng.pick(&[255, 256, u32::MAX]),
                     2 => window.first_column = window.last_column + 1,
                     3 => window.last_column = rng.pick(&[131, 132, 255, u32::MAX]),

@@ -14,7 +14,7 @@ pub const UNFIT: u8 = 255;
 
 /// Counts of the slices.
 pub const SETTINGS: usize = 18;
-pub const STATE: usize = 19;
+pub const STATE: usize = 20;
 pub const EFFECT: usize = 10;
 pub const SHEET_ANSWER: usize = 20;
 pub const START_ANSWER: usize = 3;
@@ -36,7 +36,7 @@ pub const SETTINGS_MOST: [u32; SETTINGS] = [
 ];
 pub const STATE_MOST: [u32; STATE] = [
     0xFFFF, 0xFFFF, 0xFFFF, 255, 255, 255, 1, 255, 0xFFFF, 255, 255, ANY, 1, 255, 255, 255, 255,
-    ANY, ANY,
+    ANY, ANY, 255,
 ];
 pub const EFFECT_MOST: [u32; EFFECT] = [
     13, 0xFFFF, ANY, 1, 0xFFFF, //
@@ -94,6 +94,7 @@ fn state_of(numbers: &[u32]) -> Option<State> {
         last_column: n[16],
         next_row: n[17],
         next_block: n[18],
+        number: n[19],
     });
     Some(State {
         latch: n[0] as u16,
@@ -195,6 +196,7 @@ fn write_state(state: &State, n: &mut [u32; STATE]) {
             n[16] = w.last_column;
             n[17] = w.next_row;
             n[18] = w.next_block;
+            n[19] = w.number;
         }
     }
 }

@@ -88,7 +88,7 @@ impl Tape<'_> {
         (address != 0).then_some(address)
     }
 
-    fn window(&mut self, mut address: u32, last_row: u32) -> Result<Window, Refusal> {
+    fn window(&mut self, mut address: u32, before: Option<Window>) -> Result<Window, Refusal> {
         let words = self.words(&mut address, 6)?;
         let window = Window {
             first_row: u32::from(words[4] / 256),
@@ -97,9 +97,13 @@ impl Tape<'_> {
             last_column: u32::from(words[5] % 256),
             next_row: self.pointer(&words[2..]).unwrap_or(0),
             next_block: self.pointer(&words).unwrap_or(0),
+            number: match before {
+                None => 0,
+                Some(window) => window.number + 1,
+            },
         };
         let bad = window.first_row > window.last_row
-            || window.first_row <= last_row
+            || before.is_some_and(|before| window.first_row <= before.last_row)
             || window.first_column > window.last_column
             || window.last_column > 131;
         if bad {
@@ -358,7 +362,7 @@ pub fn row(settings: &Settings, memory: &[u16], state: &State) -> Result<Drawn, 
             next.window = if window.next_block == 0 {
                 None
             } else {
-                Some(tape.window(window.next_block, window.last_row)?)
+                Some(tape.window(window.next_block, Some(window))?)
             };
         }
     }
@@ -392,6 +396,7 @@ pub fn row(settings: &Settings, memory: &[u16], state: &State) -> Result<Drawn, 
 
     let mut inner = Vec::new();
     let mut columns = None;
+    let mut number = 0;
     if let Some(window) = &mut next.window {
         if (window.first_row..=window.last_row).contains(&now.row) {
             let first = window.first_column as usize;
@@ -417,6 +422,7 @@ pub fn row(settings: &Settings, memory: &[u16], state: &State) -> Result<Drawn, 
                 }
             }
             columns = Some((first, last));
+            number = window.number;
         }
     }
 
@@ -442,7 +448,7 @@ pub fn row(settings: &Settings, memory: &[u16], state: &State) -> Result<Drawn, 
         let mut inner_list = None;
         let mut s = first;
         for segment in &inner {
-            inner_list = tape.segment(segment, s, 2)?;
+            inner_list = tape.segment(segment, s, 2 + 16 * number)?;
             s += segment.width(settings);
         }
         let rest: Vec<usize> = (s..last + 1).collect();
@@ -570,6 +576,7 @@ fn in_range(f: &Fields) -> bool {
                 && w.last_column < 132
                 && address(w.next_row)
                 && address(w.next_block)
+                && w.number <= w.first_row
         }
     }
 }

@@ -93,6 +93,8 @@ pub struct Window {
     pub next_row: u32,
     /// The next window block, 0 for none.
     pub next_block: u32,
+    /// Along the chain, from 0.
+    pub number: u32,
 }
 
 /// All of a state but its latch.
@@ -418,17 +420,17 @@ impl<'m> Reader<'m> {
     }
 }
 
-/// A window block, read and judged. `before` is the last row of the window before it.
+/// A window block, read and judged. `before` is the window before it.
 fn window_block(
     settings: &Settings,
     memory: &[u16],
     address: u32,
-    before: Option<u32>,
+    before: Option<&Window>,
 ) -> Result<Window, Stop> {
     let words: [u16; 6] = Reader::open(memory, settings.linear, address).block()?;
     let [first_row, last_row] = words[4].to_be_bytes().map(u32::from);
     let [first_column, last_column] = words[5].to_be_bytes().map(u32::from);
-    let late = before.is_none_or(|last| first_row > last);
+    let late = before.is_none_or(|window| first_row > window.last_row);
     if first_row > last_row || !late || first_column > last_column || last_column as usize >= CELLS
     {
         return Err(Stop::bare(8));
@@ -440,6 +442,7 @@ fn window_block(
         last_column,
         next_row: pointer(settings.linear, words[2], words[3]),
         next_block: pointer(settings.linear, words[0], words[1]),
+        number: before.map_or(0, |window| window.number + 1),
     })
 }
 
@@ -506,6 +509,7 @@ impl Fields {
                 && (w.last_column as usize) < CELLS
                 && address_in_range(w.next_row)
                 && address_in_range(w.next_block)
+                && w.number <= w.first_row
         });
         u64::from(self.row) + u64::from(self.lines_left) <= 4095
             && (1..=32).contains(&self.scan_lines)
@@ -631,6 +635,8 @@ struct Plan<'a> {
     over: Segments<'a>,
     /// The window's first column and the one after its last, on the window's rows.
     columns: Option<(usize, usize)>,
+    /// The bits of its cells that name it.
+    source: u32,
     lines: u32,
     words: u32,
     /// The next state's fields.
@@ -643,6 +649,7 @@ impl<'a> Plan<'a> {
             back: Segments::none(settings),
             over: Segments::none(settings),
             columns: None,
+            source: 0,
             lines: 0,
             words: 0,
             next: *fields,
@@ -678,12 +685,7 @@ fn prepare<'a>(
                 0 => None,
                 block => {
                     plan.words += 6;
-                    Some(window_block(
-                        settings,
-                        memory,
-                        block,
-                        Some(window.last_row),
-                    )?)
+                    Some(window_block(settings, memory, block, Some(&window))?)
                 }
             };
         }
@@ -732,6 +734,7 @@ fn prepare<'a>(
                 return Err(Stop::bare(12));
             }
             plan.columns = Some((first, end));
+            plan.source = WINDOW | window.number << 24;
         }
     }
 
@@ -796,7 +799,7 @@ fn walk<P: Pen>(plan: &Plan, pen: &mut P) -> Result<(), Stop> {
         let mut inside = first;
         let mut inner = List(None);
         for segment in plan.over.iter() {
-            inner = pen.segment(&segment, inside, WINDOW)?;
+            inner = pen.segment(&segment, inside, plan.source)?;
             inside += usize::from(segment.width);
         }
         pen.fill(inside, end, &mut inner)?;

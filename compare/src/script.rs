@@ -158,7 +158,7 @@ fn draw(settings: &Settings, memory: &[u16], out: &mut Vec<u8>) -> Result<(), Re
             if column > 0 {
                 out.push(b' ');
             }
-            let _ = write!(out, "{cell:06X}");
+            let _ = write!(out, "{cell:08X}");
         }
         out.push(b'\n');
         rows += 1;

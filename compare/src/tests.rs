@@ -4,16 +4,16 @@ use crate::generate::{self, Case, Rng, Shape};
 use crate::plain;
 use crate::rules::{
     self, effect, invokes, pointer, row, sheet, start, step, Edition, Effect, Field, Fields,
-    Interlace, Part, Refusal, Row, Settings, Sheet, State, CELLS,
+    Interlace, Part, Refusal, Row, Settings, Sheet, State, Window, CELLS,
 };
 use crate::script::{self, UNSET};
 use crate::vectors::{self, sheet_s};
 
 const SHEET_S_OUTPUT: &str = "\
 row 0 lines 8 attr 000 words 12
-100041 500042 100281 000220
+00100041 00500042 00100281 00000220
 row 1 lines 8 attr 000 words 3
-000220 000220 000220 000220
+00000220 00000220 00000220 00000220
 end rows 2 words 22
 ";
 
@@ -752,6 +752,83 @@ fn frames_in_turn() {
     board.memory.truncate(8);
     let (latch, rows) = draw(&board, latch);
     assert_eq!((latch, rows.len()), (0x1234, 0));
+}
+
+/// Cells name their window along the chain; its fill does not.
+#[test]
+fn windows_are_numbered() {
+    let mut board = Board::new(0x0020);
+    let settings = Settings {
+        tow: [0, 0x400],
+        ..wide()
+    };
+    // Windows on rows 0, 2 to 3 and 4; the second has no segments.
+    board
+        .window(0x400, 0x410, 0x440, (0, 0), (0, 2))
+        .window(0x410, 0x420, 0, (2, 3), (0, 2))
+        .window(0x420, 0, 0x440, (4, 4), (1, 3))
+        .row(0x440, 0, &[(0x200, 0, 2, 2)])
+        .row(0x100, 0x100, &[(0x200, 0, 1, 1)])
+        .write(0x200, &[0x4142]);
+    let (rows, refusal) = board.frame(&settings);
+    assert_eq!(refusal, None);
+    let shown = |row: usize| &rows[row].1[..5];
+    assert_eq!(shown(0), [0x0020_0041, 0x0020_0042, 0x20, 0x20, 0x20]);
+    assert_eq!(shown(1), [0x0010_0041, 0x20, 0x20, 0x20, 0x20]);
+    assert_eq!(shown(2), [0x20; 5]);
+    assert_eq!(shown(3), [0x20; 5]);
+    assert_eq!(
+        shown(4),
+        [0x0010_0041, 0x0220_0041, 0x0220_0042, 0x20, 0x20]
+    );
+    assert_eq!(shown(5), shown(1));
+}
+
+/// A state's number: what follows it in the chain goes on from there, blocks read but never shown too.
+#[test]
+fn numbers_of_states() {
+    let mut board = Board::new(0x0020);
+    board
+        .window(0x410, 0x420, 0x440, (6, 7), (0, 1))
+        .window(0x420, 0, 0x440, (8, 255), (0, 1))
+        .row(0x440, 0x440, &[(0x200, 0, 2, 2)])
+        .write(0x200, &[0x4142]);
+    let settings = wide();
+    let mut state = start(&settings, &board.memory, 0).unwrap().state;
+    state.fields.row = 20;
+    state.fields.window = Some(Window {
+        first_row: 5,
+        last_row: 5,
+        first_column: 0,
+        last_column: 0,
+        next_row: 0,
+        next_block: 0x410,
+        number: 5,
+    });
+    let mut cells = [0; CELLS];
+    // The one read in row 20 has passed too.
+    row(&settings, &board.memory, &mut state, &mut cells).unwrap();
+    assert_eq!(cells[0], 0x20);
+    assert_eq!(state.fields.window.unwrap().number, 6);
+    row(&settings, &board.memory, &mut state, &mut cells).unwrap();
+    assert_eq!(cells[..2], [0x0720_0041, 0x0720_0042]);
+    assert_eq!(state.fields.window.unwrap().number, 7);
+    // A number above its window's first row is out of range.
+    for (number, refused) in [(8, None), (9, Some(3)), (255, Some(3)), (256, Some(3))] {
+        let mut state = state;
+        state.fields.window.as_mut().unwrap().number = number;
+        let answer = row(&settings, &board.memory, &mut state, &mut cells);
+        assert_eq!(answer.err().map(|refusal| refusal.number), refused);
+        if refused.is_none() {
+            assert_eq!(cells[0], number << 24 | 0x20_0041);
+        }
+    }
+    // The highest: 255 on row 255.
+    let window = state.fields.window.as_mut().unwrap();
+    (window.first_row, window.number) = (255, 255);
+    state.fields.row = 255;
+    row(&settings, &board.memory, &mut state, &mut cells).unwrap();
+    assert_eq!(cells[1], 0xFF20_0042);
 }
 
 #[test]

@@ -15,9 +15,8 @@ use Rattle.blocks.specs.declared.Segment.{Segment}
 use Rattle.layout.specs.Layout.{width, Overlay, none, over}
 use Rattle.codes.specs.declared.CodeSettings.{CodeSettings}
 use Rattle.codes.specs.declared.Source.{Source}
-use Rattle.codes.specs.declared.Source.the-variants.{Background, Window}
 use Rattle.codes.specs.declared.AttributeList.{AttributeList}
-use Rattle.codes.specs.Attribute.{invokes, latches, ignores}
+use Rattle.codes.specs.Attribute.{Background, Window, invokes, latches, ignores}
 use Rattle.codes.specs.Codes.{Drawing, drawing, noList, listAt, withList, taking, put, character, examine, wordCodes, codes}
 use Rattle.cells.specs.Cells.{filled, fillByWord, fillTo, segment, segmentsTo, rowCells}
 
@@ -122,7 +121,7 @@ module _ (l₁ l₂ : ℕ) (same : ignores l₁ ≡ ignores l₂) (σ : CodeSett
     pub cells-keeps : (o : Overlay) (gs : List Segment) → Keeps l₁ l₂ (rowCells σ fill o gs)
     unfolding rowCells
     cells-keeps none gs d e r = segments-keep Background gs 132 d e r
-    cells-keeps (over first end ws) gs d e r =
+    cells-keeps (over number first end ws) gs d e r =
         bind (segments-keep Background _ first d e r) λ d₁ e₁ r₁.
-        bind (segments-keep Window ws end _ _ (with-list l₁ l₂ noList d₁ e₁ r₁)) λ d₂ e₂ r₂.
+        bind (segments-keep (Window number) ws end _ _ (with-list l₁ l₂ noList d₁ e₁ r₁)) λ d₂ e₂ r₂.
         segments-keep Background _ 132 _ _ (list-back l₁ l₂ d₁ e₁ d₂ e₂ r₁ r₂)

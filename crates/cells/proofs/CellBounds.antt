@@ -20,8 +20,7 @@ use Rattle.layout.proofs.LayoutLaws.{clear, before-total, after-total, sides-le
 use Rattle.layout.proofs.OverlayBounds.{Inside}
 use Rattle.codes.specs.declared.CodeSettings.{CodeSettings}
 use Rattle.codes.specs.declared.Source.{Source}
-use Rattle.codes.specs.declared.Source.the-variants.{Background, Window}
-use Rattle.codes.specs.Attribute.{latches}
+use Rattle.codes.specs.Attribute.{Background, Window, latches}
 use Rattle.codes.specs.Codes.{Drawing, drawing, listAt, noList, withList, taking}
 use Rattle.codes.proofs.CodeBounds.{Even, Inked, At, put-at, codes-read}
 use Rattle.cells.specs.Cells.{codeCount, filled, fillByWord, fillTo, segment, segmentsTo, rowCells}
@@ -73,7 +72,7 @@ module _ (σ : CodeSettings) (fill : FillMode) where
       → edgesFit (σ .hidden) o gs ≡ true → At 0 d → Reads (At 132) 11523 (rowCells σ fill o gs d)
   unfolding rowCells edgesFit
   cells-read none gs d few n inside e h = weaken (omega arith) (segments-to-read Background gs 132 d (few .0) (h .0) (omega arith))
-  cells-read (over first end ws) gs d few n inside e h =
+  cells-read (over number first end ws) gs d few n inside e h =
       let hidden = σ .hidden in
       let edge = both (boundary hidden 0 gs first) (boundary hidden 0 gs end) e in
       let before = segmentsOn (Before first) hidden 0 gs in
@@ -85,5 +84,5 @@ module _ (σ : CodeSettings) (fill : FillMode) where
       bind {n = 384 * length before + 1} {k = k + 5761} (omega arith)
       (segments-to-read Background before first d (side-short hidden (Before first) 0 gs (few .0)) (h .0) (omega arith)) λ d₁ h₁.
       bind {n = 5761} {k = k} (omega arith)
-      (weaken (omega arith) (segments-to-read Window ws end (withList noList d₁) (inside .0 .0) (h₁ .0) (omega arith))) λ d₂ h₂.
+      (weaken (omega arith) (segments-to-read (Window number) ws end (withList noList d₁) (inside .0 .0) (h₁ .0) (omega arith))) λ d₂ h₂.
       segments-to-read Background after 132 (withList (d₁ .pen .list) d₂) (side-short hidden (After first end) 0 gs (few .0)) (h₂ .0) (omega arith)

@@ -13,11 +13,10 @@ use Rattle.memory.proofs.Laws.{run-done, run-refuse, ask-word, ask-absent}
 use Rattle.memory.proofs.ListLaws.{take-next}
 use Rattle.blocks.specs.declared.FillMode.{FillMode}
 use Rattle.codes.specs.declared.CodeSettings.{CodeSettings}
-use Rattle.codes.specs.declared.Source.the-variants.{Fill}
 use Rattle.codes.specs.declared.Pen.{Pen}
 use Rattle.codes.specs.declared.Drawn.{Drawn}
 use Rattle.codes.specs.declared.Drawn.the-variants.{Accepted, Refused}
-use Rattle.codes.specs.Attribute.{latches, cell}
+use Rattle.codes.specs.Attribute.{Fill, latches, cell}
 use Rattle.codes.specs.Codes.{Drawing, drawing, movedTo, taking, put}
 use Rattle.codes.specs.Answers.{soFar}
 use Rattle.cells.specs.Cells.{filled, unlatched, fillByWord, fillTo}

@@ -3,3 +3,4 @@ pub mod CellBounds
 pub mod FillLaws
 pub mod FinishLaws
 pub mod SideLaws
+pub mod CellSources

@@ -82,9 +82,9 @@ pub record Around (hidden : Bool) (first end : ℕ) (ws gs : List Segment) : Typ
   pub inside : first + total hidden (segmentsOn Whole hidden 0 ws) ≤ end
   pub after : end + total hidden (segmentsOn (After first end) hidden 0 gs) ≤ 132
 
-pub around : (hidden : Bool) (first end : ℕ) (ws gs : List Segment) → Drawable hidden (over first end ws) gs → Around hidden first end ws gs
+pub around : (hidden : Bool) (number first end : ℕ) (ws gs : List Segment) → Drawable hidden (over number first end ws) gs → Around hidden first end ws gs
 unfolding edgesFit
-around hidden first end ws gs d =
+around hidden number first end ws gs d =
     let edge = both (boundary hidden 0 gs first) (boundary hidden 0 gs end) (d .edges) in
     let narrow = d .narrow in
     let inside = d .inside in

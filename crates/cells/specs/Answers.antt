@@ -38,7 +38,7 @@ Reached end most (Refused n a) = (0 ≤ end) × (0 ≤ most)
 -- what a plan's checks 10, 11 and 12 give: the widths stay within the row and within the window, whose edges are boundaries
 abbrev pub Inside : Bool → Overlay → Type 0
 Inside hidden none = 0 ≤ 132
-Inside hidden (over first end ws) = (first + total hidden ws ≤ end) × (end ≤ 132)
+Inside hidden (over number first end ws) = (first + total hidden ws ≤ end) × (end ≤ 132)
 
 pub record Drawable (hidden : Bool) (o : Overlay) (gs : List Segment) : Type 0 where
   pub narrow : total hidden gs ≤ 132

@@ -14,8 +14,7 @@ use Rattle.layout.specs.declared.Side.the-variants.{Before, After}
 use Rattle.layout.specs.Layout.{width, Overlay, none, over, segmentsOn}
 use Rattle.codes.specs.declared.CodeSettings.{CodeSettings}
 use Rattle.codes.specs.declared.Source.{Source}
-use Rattle.codes.specs.declared.Source.the-variants.{Fill, Background, Window}
-use Rattle.codes.specs.Attribute.{latches, cell}
+use Rattle.codes.specs.Attribute.{Fill, Background, Window, latches, cell}
 use Rattle.codes.specs.Codes.{Drawing, drawing, listAt, noList, withList, taking, put, codes}
 
 -- "With a null code pointer .. L has no meaning and no code is read."
@@ -63,7 +62,7 @@ module _ (σ : CodeSettings) (fill : FillMode) where
   -- segment drawn before it": the window begins with none, and leaves the background's as it was.
   unfoldable pub rowCells : Overlay → List Segment → Drawing → Reading Drawing
   rowCells none gs d = segmentsTo Background gs 132 d
-  rowCells (over first end ws) gs d = do
+  rowCells (over number first end ws) gs d = do
     d₁ ← segmentsTo Background (segmentsOn (Before first) (σ .hidden) 0 gs) first d
-    d₂ ← segmentsTo Window ws end (withList noList d₁)
+    d₂ ← segmentsTo (Window number) ws end (withList noList d₁)
     segmentsTo Background (segmentsOn (After first end) (σ .hidden) 0 gs) 132 (withList (d₁ .pen .list) d₂)

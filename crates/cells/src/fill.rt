@@ -90,7 +90,7 @@ fn fill_run(fill: FillMode, end: usize, pen: Pen, cells: &mut [u32]) -> Pen
     ensures { λ r. ⌜ r .column ≡ end ⌝ }
     ensures { λ r. ⌜ soFar r (now (cells .exit)) ≡ filled fill end (soFar pen (now (cells .entry))) ⌝ }
 {
-    let value = attribute::cell(Source::Fill, pen.latch, fill.code);
+    let value = attribute::cell(Source { kind: 0, window: 0 }, pen.latch, fill.code);
     fill_cells(cells, pen.column, end, value);
     pens::moved_to(end, pen)
 }

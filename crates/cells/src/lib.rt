@@ -117,13 +117,14 @@ fn walk_cells(
             let stretch = Stretch {
                 settings,
                 fill,
-                source: Source::Background,
+                source: Source { kind: 1, window: 0 },
                 side: Side::Whole,
                 end: 132,
             };
             draw_run(mem, cells, stretch, back, count, pen, words)
         }
         OverlayHead::Over {
+            number,
             first,
             end,
             count: n,
@@ -131,6 +132,7 @@ fn walk_cells(
             mem,
             settings,
             fill,
+            number,
             first,
             end,
             back,
@@ -149,6 +151,7 @@ fn draw_around(
     mem: &[u16],
     settings: CodeSettings,
     fill: FillMode,
+    number: u8,
     first: usize,
     end: usize,
     back: &[u16; 75],
@@ -159,15 +162,15 @@ fn draw_around(
     words: u32,
     cells: &mut [u32],
 ) -> Drawn
-    requires { ⌜ Drawable (settings .hidden) (over first end (segmentsOf (settings .linear) n (now window))) (segmentsOf (settings .linear) count (now back)) ⌝ }
+    requires { ⌜ Drawable (settings .hidden) (over number first end (segmentsOf (settings .linear) n (now window))) (segmentsOf (settings .linear) count (now back)) ⌝ }
     requires { ⌜ (pen .column ≡ 0) × (length (now cells) ≡ 132) × (words ≤ 1000) ⌝ }
     ensures { λ r. ⌜ Reached 132 (words + 400000) r ⌝ }
-    ensures { λ r. ⌜ drawn r (now (cells .exit)) ≡ runFrom words (now (mem .entry)) (rowCells settings fill (over first end (segmentsOf (settings .linear) n (now (window .entry)))) (segmentsOf (settings .linear) count (now (back .entry))) (soFar pen (now (cells .entry)))) ⌝ }
+    ensures { λ r. ⌜ drawn r (now (cells .exit)) ≡ runFrom words (now (mem .entry)) (rowCells settings fill (over number first end (segmentsOf (settings .linear) n (now (window .entry)))) (segmentsOf (settings .linear) count (now (back .entry))) (soFar pen (now (cells .entry)))) ⌝ }
 {
     let before_it = Stretch {
         settings,
         fill,
-        source: Source::Background,
+        source: Source { kind: 1, window: 0 },
         side: Side::Before(first),
         end: first,
     };
@@ -180,7 +183,10 @@ fn draw_around(
             let within = Stretch {
                 settings,
                 fill,
-                source: Source::Window,
+                source: Source {
+                    kind: 2,
+                    window: number,
+                },
                 side: Side::Whole,
                 end,
             };
@@ -197,7 +203,7 @@ fn draw_around(
                     let after_it = Stretch {
                         settings,
                         fill,
-                        source: Source::Background,
+                        source: Source { kind: 1, window: 0 },
                         side,
                         end: 132,
                     };

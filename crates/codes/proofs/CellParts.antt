@@ -1,17 +1,13 @@
 -- A cell's parts are read back as they were put in.
 use mathlib.Core.Path.{_≡_}
-use Prim.Native.Nat.{ℕ, _%_, _≤_, _<_, _^_}
+use Prim.Native.Nat.{ℕ, _%_, _<_, _^_}
 use native.Mathlib.Omega.{arith}
-use lib.Dec.{lit≤}
 use Rattle.codes.specs.declared.Source.{Source}
-use Rattle.codes.specs.declared.Source.the-variants.{Fill, Background, Window}
-use Rattle.codes.specs.Attribute.{sourceNumber, cell, codeOf, attributeOf, sourceOf}
+use Rattle.codes.specs.Attribute.{sourceNumber, windowNumber, cell, codeOf, attributeOf, sourceOf, windowNumberOf}
 
-source-small : (source : Source) → sourceNumber source ≤ 2
+source-small : (source : Source) → sourceNumber source < 4
 unfolding sourceNumber
-source-small Fill = lit≤ tt
-source-small Background = lit≤ tt
-source-small Window = lit≤ tt
+source-small source = omega arith
 
 module _ (source : Source) (attribute code : ℕ) (h : code < 256) where
   pub code-back : codeOf (cell source attribute code) ≡ code
@@ -25,3 +21,7 @@ module _ (source : Source) (attribute code : ℕ) (h : code < 256) where
   pub source-back : sourceOf (cell source attribute code) ≡ sourceNumber source
   unfolding cell
   source-back = omega (arith, h, source-small source)
+
+  pub window-back : windowNumberOf (cell source attribute code) ≡ windowNumber source
+  unfolding cell
+  window-back = omega (arith, h, source-small source)

@@ -2,7 +2,7 @@
 use mathlib.Core.Path.{_≡_, ap, sym, _∙_}
 use mathlib.Core.List.{List, _∷_}
 use mathlib.Core.Bool.{Bool, true, false, _&&_, _||_, not}
-use Prim.Native.Nat.{ℕ, zero, suc, _+_, _-_, _<_, _≤_, min}
+use Prim.Native.Nat.{ℕ, zero, suc, _+_, _-_, _%_, _<_, _≤_, min}
 use native.Mathlib.Omega.{arith}
 use native.Mathlib.Numerals.{add-one}
 use lib.ListN.{length, getD, take, drop, set}
@@ -19,9 +19,8 @@ use Rattle.memory.proofs.ListLaws.{take-next}
 use Rattle.memory.proofs.ReadBounds.{both}
 use Rattle.codes.specs.declared.CodeSettings.{CodeSettings}
 use Rattle.codes.specs.declared.Source.{Source}
-use Rattle.codes.specs.declared.Source.the-variants.{Fill, Background, Window}
 use Rattle.codes.specs.declared.Pen.{Pen}
-use Rattle.codes.specs.Attribute.{invokes, ignores, sourceNumber, cell}
+use Rattle.codes.specs.Attribute.{invokes, ignores, cell}
 use Rattle.codes.specs.Codes.{Drawing, drawing, movedTo, taking, put, character, examine, wordCodes, codes}
 use Rattle.codes.specs.Answers.{soFar}
 
@@ -32,11 +31,10 @@ pub cell-code : (source : Source) (a code : ℕ) → cell source a 0 + code ≡ 
 unfolding cell
 cell-code source a code = omega arith
 
-pub cell-small : (source : Source) (a : ℕ) → cell source a 0 ≤ 4000000
-unfolding cell sourceNumber
-cell-small Fill a = omega arith
-cell-small Background a = omega arith
-cell-small Window a = omega arith
+-- its bits but the code's leave room for a code
+pub cell-room : (source : Source) (a : ℕ) → cell source a 0 % 256 ≡ 0
+unfolding cell
+cell-room source a = omega arith
 
 -- one cell more at the pen's column, or none
 module _ (hidden : Bool) (source : Source) (end a code : ℕ) (p : Pen) (cs : List ℕ) where

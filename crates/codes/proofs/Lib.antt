@@ -1,3 +1,4 @@
 pub mod CodeBounds
 pub mod CodeLaws
 pub mod CellParts
+pub mod CodeCells

@@ -2,8 +2,7 @@
 use crate::Source;
 ghost use mathlib.Core.Path.{_≡_};
 ghost use mathlib.Core.Bool.{_||_, not};
-ghost use Prim.Native.Nat.{_≤_};
-ghost use Rattle.codes.specs.Attribute.{invokes, ignores, sourceNumber, cell, codeOf, attributeOf};
+ghost use Rattle.codes.specs.Attribute.{invokes, ignores, cell, codeOf, attributeOf};
 
 // Does the code invoke an attribute?
 pub fn invokes(flag: u16, code: u8) -> bool
@@ -27,7 +26,8 @@ pub fn cell(source: Source, attribute: u16, code: u8) -> u32
     code as u32
         + attribute as u32 % 2048 * 256
         + attribute as u32 / 16384 % 2 * 524288
-        + source_number(source) * 1048576
+        + source.kind as u32 % 4 * 1048576
+        + source.window as u32 * 16777216
 }
 
 // The code of a cell.
@@ -42,14 +42,4 @@ pub fn attribute_of(cell: u32) -> u16
     ensures { λ r. ⌜ r ≡ attributeOf cell ⌝ }
 {
     (cell / 256 % 2048) as u16
-}
-
-fn source_number(source: Source) -> u32
-    ensures { λ r. ⌜ (r ≡ sourceNumber source) × (r ≤ 2) ⌝ }
-{
-    match source {
-        Source::Fill => 0,
-        Source::Background => 1,
-        Source::Window => 2,
-    }
 }

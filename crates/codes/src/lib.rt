@@ -12,11 +12,11 @@ pub struct CodeSettings {
     pub flag: u16,
 }
 
-// Where a cell comes from.
-pub enum Source {
-    Fill,
-    Background,
-    Window,
+// Where a cell comes from: 0 fill, 1 background, 2 window; and the window's number along the chain, 0 elsewhere. An enum with the number
+// in it would be taken apart at each cell.
+pub struct Source {
+    pub kind: u8,
+    pub window: u8,
 }
 
 // The room of characters: the source of their cells, and the column that they stand before.

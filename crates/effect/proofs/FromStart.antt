@@ -16,4 +16,4 @@ pub frame-alone : (latch : ℕ) (σ : Settings) (m : List ℕ) → Words m → {
     → (calls : List Call) → inTurn σ m s calls ≡ drawnAlone σ m latch (s .fields) empty calls
 frame-alone latch σ m w {s = s} e calls =
     demand-3 .rows σ m s calls
-    ∙ ap (λ (l : ℕ). drawnAlone σ m l (s .fields) empty calls) (reads-given 0 m w (start-reads latch σ) e .1 .1)
+    ∙ ap (λ (l : ℕ). drawnAlone σ m l (s .fields) empty calls) (reads-given 0 m w (start-reads latch σ) e .1 .latched)

@@ -21,7 +21,7 @@ pub fn next_effect(
     state: &mut [u32],
     effect: &mut [u32],
 ) -> u8
-    requires { ⌜ (length (now state) ≡ 19) × (length (now effect) ≡ 10) ⌝ }
+    requires { ⌜ (length (now state) ≡ 20) × (length (now effect) ≡ 10) ⌝ }
     ensures { λ r. ⌜ stated r (now (state .exit)) (now (effect .exit)) ≡ afterEffect (from .latch) (now (state .entry)) (effectCall settings (now (memory .entry)) (from .fields)) ⌝ }
 {
     let fields = from.fields;
@@ -35,7 +35,7 @@ pub fn next_effect(
 
 // The next state's fields, where the effect came with them.
 fn step(latch: u16, next: NextFields, state: &mut [u32])
-    requires { ⌜ length (now state) ≡ 19 ⌝ }
+    requires { ⌜ length (now state) ≡ 20 ⌝ }
     ensures { λ _. ⌜ now (state .exit) ≡ stepped latch (now (state .entry)) next ⌝ }
 {
     if let NextFields::Reached(fields) = next {

@@ -110,7 +110,7 @@ module _ (σ : Settings) (m : List ℕ) (w : Words m) where
             let i : record { state = s; words = n } ≡ p = cc in
             let words = ap (λ (p : Progress). p .words) i in
             let row = ap (λ (p : Progress). p .state .fields .row) i in
-            (omega (arith, b .1 .0), omega (arith, b .0))
+            (omega (arith, b .1 .row), omega (arith, b .0))
         by-start (refused x) h k = let z : _≡_ {A = ℕ} 0 1 = cc in absurd (omega arith)
 
     -- the rows, and the last answer, are the frame's

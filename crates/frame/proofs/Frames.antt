@@ -136,4 +136,4 @@ module _ (σ : Settings) (m : List ℕ) (w : Words m) where
 
     pub frame-count : (t : State) → frame latch σ m .state ≡ some t → t .fields .row ≡ length (frame latch σ m .rows)
     unfolding frame begin
-    frame-count = rw e λ t h. omega (arith, rest-count (record { state = s; words = n }) t h, reads-given 0 m w (start-reads latch σ) e .1 .0)
+    frame-count = rw e λ t h. omega (arith, rest-count (record { state = s; words = n }) t h, reads-given 0 m w (start-reads latch σ) e .1 .row)

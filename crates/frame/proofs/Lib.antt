@@ -2,3 +2,4 @@ pub mod StepLaws
 pub mod Frames
 pub mod Calls
 pub mod HandedOn
+pub mod Windows

@@ -21,9 +21,8 @@ use Rattle.blocks.specs.declared.FillMode.{FillMode}
 use Rattle.blocks.specs.declared.Segment.{Segment}
 use Rattle.layout.specs.Layout.{width, Overlay, none, over}
 use Rattle.codes.specs.declared.Source.{Source}
-use Rattle.codes.specs.declared.Source.the-variants.{Background, Window}
 use Rattle.codes.specs.declared.AttributeList.{AttributeList}
-use Rattle.codes.specs.Attribute.{invokes, latches, ignores}
+use Rattle.codes.specs.Attribute.{Background, Window, invokes, latches, ignores}
 use Rattle.codes.specs.Codes.{Drawing, drawing, listAt, noList, blank, withList, taking, put, character, examine, wordCodes, codes}
 use Rattle.cells.specs.Cells.{codeCount}
 use Rattle.cells.specs.Cells.{filled, fillTo, segment, segmentsTo, rowCells}
@@ -240,10 +239,10 @@ module _ (m : List ℕ) (σ : CodeSettings) (fill : FillMode) (no : fill .flag �
       → Tells (d .pen .latched) (d .pen .latch) (overParts σ m o gs) (runFrom n m (rowCells σ fill o gs d))
   unfolding overParts rowCells
   row-tells none gs n d = run-tells Background gs 132 n d
-  row-tells (over first end ws) gs n d =
+  row-tells (over number first end ws) gs n d =
       rw join-assoc
       (tells-bind n m _ _ (run-tells Background _ first n d)
-      λ n d₁. tells-bind n m _ _ (run-tells Window ws end n (withList noList d₁))
+      λ n d₁. tells-bind n m _ _ (run-tells (Window number) ws end n (withList noList d₁))
       λ n d₂. run-tells Background _ 132 n (withList (d₁ .pen .list) d₂))
 
 -- what is told of a row is what its drawing makes of the latch

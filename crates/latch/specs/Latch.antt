@@ -63,7 +63,7 @@ module _ (σ : CodeSettings) (m : List ℕ) where
   -- the segments in the order of `rowCells`
   unfoldable pub overParts : Overlay → List Segment → LatchEffect
   overParts none gs = overSegments gs
-  overParts (over first end ws) gs =
+  overParts (over number first end ws) gs =
       join (join (overSegments (segmentsOn (Before first) (σ .hidden) 0 gs)) (overSegments ws))
       (overSegments (segmentsOn (After first end) (σ .hidden) 0 gs))
 

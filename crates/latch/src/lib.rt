@@ -41,6 +41,7 @@ pub fn row_latch(
     match overlay {
         OverlayHead::NoOverlay => side_latch(mem, settings, Side::Whole, back, count, none),
         OverlayHead::Over {
+            number: _,
             first,
             end,
             count: n,

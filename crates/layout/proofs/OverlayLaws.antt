@@ -46,6 +46,6 @@ module _ (m : List ℕ) (σ : Settings) (w : Window) where
 
   pub window-checks : {n : ℕ} {b : RowBlock} → run m (windowRowAt (σ .linear) (w .rows)) ≡ given n b
       → run m (windowRow σ w) ≡ runFrom n m (judged (σ .hidden) (b .segments) 11 (w .block .right + 1 - w .block .left)
-      (record { overlay = over (w .block .left) (w .block .right + 1) (b .segments); window = Present (withRows (b .link) w) }))
+      (record { overlay = over (w .block .number) (w .block .left) (w .block .right + 1) (b .segments); window = Present (withRows (b .link) w) }))
   unfolding windowRow
   window-checks e = bind-given 0 m (windowRowAt (σ .linear) (w .rows)) _ e

@@ -20,7 +20,7 @@ measured hidden gs = record { fit = allFit gs; width = total hidden gs }
 -- the window on a row, with the words of its segments
 abbrev pub overlayOf : Bool → OverlayHead → List ℕ → Overlay
 overlayOf linear NoOverlay ws = none
-overlayOf linear (Over first end count) ws = over first end (segmentsOf linear count ws)
+overlayOf linear (Over number first end count) ws = over number first end (segmentsOf linear count ws)
 
 -- the answer of `overlay_row`, with the words of the window's segments, as an outcome
 abbrev pub overlayRead : Bool → OverlayRead → List ℕ → Outcome Overlaid

@@ -31,15 +31,15 @@ unfoldable pub boundary : Bool → ℕ → List Segment → ℕ → Bool
 boundary hidden s [] place = leb s place
 boundary hidden s (g ∷ gs) place = eqb s place || boundary hidden (s + width hidden g) gs place
 
--- the window on a row: none, or its first column, the column after its last, and its segments
+-- the window on a row: none, or its number, first column, the column after its last, and its segments
 pub data Overlay : Type 0 where
   none : Overlay
-  over : (first end : ℕ) → List Segment → Overlay
+  over : (number first end : ℕ) → List Segment → Overlay
 
 -- Refusal 12: "The window's edges must fall on background segment boundaries"
 unfoldable pub edgesFit : Bool → Overlay → List Segment → Bool
 edgesFit hidden none gs = true
-edgesFit hidden (over first end ws) gs = boundary hidden 0 gs first && boundary hidden 0 gs end
+edgesFit hidden (over number first end ws) gs = boundary hidden 0 gs first && boundary hidden 0 gs end
 
 -- "A background segment from s of width w is covered, and not read, when first <= s and s+w <= last+1."
 unfoldable pub covered : ℕ → ℕ → ℕ → ℕ → Bool

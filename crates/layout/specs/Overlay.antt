@@ -27,7 +27,10 @@ windowRow σ w = do
   b ← windowRowAt (σ .linear) (w .rows)
   check 9 (allFit (b .segments))
   check 11 (leb (total (σ .hidden) (b .segments)) (w .block .right + 1 - w .block .left))
-  done (record { overlay = over (w .block .left) (w .block .right + 1) (b .segments); window = Present (withRows (b .link) w) })
+  done (record {
+    overlay = over (w .block .number) (w .block .left) (w .block .right + 1) (b .segments);
+    window = Present (withRows (b .link) w);
+  })
 
 -- "On its rows a window replaces its columns."
 unfoldable pub overlaid : Settings → ℕ → WindowInHand → Reading Overlaid

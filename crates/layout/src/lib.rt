@@ -15,10 +15,15 @@ pub enum Side {
     After(usize, usize),
 }
 
-// The window on a row but for its segments: none, or its first column, the one after its last, and the count of segments.
+// The window on a row but for its segments: none, or its number, first column, the one after its last, and the count of segments.
 pub enum OverlayHead {
     NoOverlay,
-    Over { first: usize, end: usize, count: u8 },
+    Over {
+        number: u8,
+        first: usize,
+        end: usize,
+        count: u8,
+    },
 }
 
 // Whether a row's segments all pass check 9, and the sum of their widths.

@@ -72,6 +72,7 @@ pub fn edges_fit(
     match overlay {
         OverlayHead::NoOverlay => true,
         OverlayHead::Over {
+            number: _,
             first,
             end,
             count: _,
@@ -105,6 +106,7 @@ fn window_row(mem: &[u16], settings: Settings, w: Window, over: &mut [u16; 75]) 
                 return OverlayRead::Refused(memory::fault_of(11));
             }
             let overlay = OverlayHead::Over {
+                number: w.block.number,
                 first: w.block.left as usize,
                 end: w.block.right as usize + 1,
                 count: b.count,

@@ -81,12 +81,12 @@ module _ (l : List ℕ) (i : ℕ) (h : i + 1 < length l) where
   zero-dropped e = first-dropped (drop i l) more (head ∙ e) ∙ rw (drop-drop 1 i l)
 
 -- the cells of a line
-cells-first : (l : List ℕ) → 0 < length l → cellLine l ≡ hex 6 (getD l 0 0) ++ moreCells (drop 1 l)
+cells-first : (l : List ℕ) → 0 < length l → cellLine l ≡ hex 8 (getD l 0 0) ++ moreCells (drop 1 l)
 unfolding cellLine
 cells-first [] h = absurd (omega arith)
 cells-first (c ∷ l) h = refl
 
-cells-more : (l : List ℕ) (i : ℕ) → i < length l → moreCells (drop i l) ≡ text " " ++ hex 6 (getD l i 0) ++ moreCells (drop (i + 1) l)
+cells-more : (l : List ℕ) (i : ℕ) → i < length l → moreCells (drop i l) ≡ text " " ++ hex 8 (getD l i 0) ++ moreCells (drop (i + 1) l)
 unfolding moreCells
 cells-more l i h = rw (add-one, drop-cons l i 0)
 
@@ -101,11 +101,11 @@ no-cells before (c ∷ l) h = absurd (omega arith)
 
 -- a text that ends in the line of the cells l: with the first of them written, one more, and at the line's end
 module _ (l : List ℕ) where
-  pub begins : (before out : List ℕ) → 0 < length l → out ≡ before ++ text "" ++ hex 6 (getD l 0 0) → before ++ cellLine l ≡ out ++ moreCells (drop 1 l)
+  pub begins : (before out : List ℕ) → 0 < length l → out ≡ before ++ text "" ++ hex 8 (getD l 0 0) → before ++ cellLine l ≡ out ++ moreCells (drop 1 l)
   begins before out h e = rw (cells-first l h, e) (simp append-assoc)
 
   pub goes-on : (whole out next : List ℕ) (i : ℕ) → i < length l → whole ≡ out ++ moreCells (drop i l)
-      → next ≡ out ++ text " " ++ hex 6 (getD l i 0) → whole ≡ next ++ moreCells (drop (i + 1) l)
+      → next ≡ out ++ text " " ++ hex 8 (getD l i 0) → whole ≡ next ++ moreCells (drop (i + 1) l)
   goes-on whole out next i h e n = e ∙ rw (cells-more l i h, n) (simp append-assoc)
 
   pub comes-to-end : (whole out : List ℕ) (i : ℕ) → length l ≤ i → whole ≡ out ++ moreCells (drop i l) → out ++ text "\n" ≡ whole

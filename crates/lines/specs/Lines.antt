@@ -1,5 +1,5 @@
 -- Document 01, "The draw program": the lines of the output, as bytes. "Fields: decimal, but row attributes three hex digits,
--- the shown columns' cells and AAAAAA six, hex in capitals."
+-- the shown columns' cells and AAAAAA six, hex in capitals." Of a cell 02 has: "The draw program prints eight hex digits".
 use Prim.Native.Nat.{ℕ, zero, suc, _+_, _/_, _%_, _≤_}
 use Prim.Native.Char.{code}
 use Prim.Native.String.{String, [] as []ₛ, _∷_ as _∷ₛ_}
@@ -51,14 +51,14 @@ rowLine r =
     text "row " ++ decimal (r .number) ++ text " lines " ++ decimal (r .lines)
     ++ text " attr " ++ hex 3 (r .format .attributes) ++ text " words " ++ decimal (r .words) ++ text "\n"
 
--- "100041 500042 100281 000220"
+-- "100041 500042 100281 000220", each with "two leading zeros" (02)
 unfoldable pub moreCells : List ℕ → List ℕ
 moreCells [] = text "\n"
-moreCells (c ∷ cs) = text " " ++ hex 6 c ++ moreCells cs
+moreCells (c ∷ cs) = text " " ++ hex 8 c ++ moreCells cs
 
 unfoldable pub cellLine : List ℕ → List ℕ
 cellLine [] = text "\n"
-cellLine (c ∷ cs) = hex 6 c ++ moreCells cs
+cellLine (c ∷ cs) = hex 8 c ++ moreCells cs
 
 abbrev pub shownCells : Settings → List ℕ → List ℕ
 shownCells σ cells = take (shownColumns σ) cells

@@ -89,7 +89,7 @@ fn put_cells(out: &mut [u8], start: usize, cells: &[u32], columns: usize) -> usi
     if columns == 0 {
         return put_end(out, start);
     }
-    let mut at = put_hex(out, start, b"", 6, cells[0]);
+    let mut at = put_hex(out, start, b"", 8, cells[0]);
     let mut i = 1;
     while i < columns {
         at = put_cell(out, at, cells[i]);
@@ -100,10 +100,10 @@ fn put_cells(out: &mut [u8], start: usize, cells: &[u32], columns: usize) -> usi
 
 // A cell after another one.
 fn put_cell(out: &mut [u8], at: usize, n: u32) -> usize
-    requires { ⌜ at + 7 ≤ length (now out) ⌝ }
-    ensures { λ r. ⌜ (r ≡ at + 7) × (take r (now (out .exit)) ≡ take at (now (out .entry)) ++ text " " ++ hex 6 n) ⌝ }
+    requires { ⌜ at + 9 ≤ length (now out) ⌝ }
+    ensures { λ r. ⌜ (r ≡ at + 9) × (take r (now (out .exit)) ≡ take at (now (out .entry)) ++ text " " ++ hex 8 n) ⌝ }
 {
-    put_hex(out, at, b" ", 6, n)
+    put_hex(out, at, b" ", 8, n)
 }
 
 // `name`, and `count` hex digits of a number.

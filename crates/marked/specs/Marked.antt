@@ -33,7 +33,7 @@ use Rattle.start.specs.declared.StartAnswer.the-variants as Start
 use Rattle.row.specs.declared.RowAnswer.{RowAnswer}
 use Rattle.row.specs.declared.RowAnswer.the-variants as Answer
 use Rattle.state.specs.State as S
-use Rattle.codes.specs.Attribute.{invokes, sourceNumber, cell}
+use Rattle.codes.specs.Attribute.{invokes, sourceNumber, windowNumber, cell}
 use Rattle.layout.specs.Layout.{width, total, allFit, boundary, edgesFit, covered, onSide, segmentsOn}
 use Rattle.layout.specs.Overlay.{windowRow, overlaid}
 use Rattle.background.specs.Background.{backgroundBlock, backgroundRow}
@@ -229,14 +229,22 @@ ten = page 0x120 (one 0x8484) (replicate 66 0x4141) (0x8004 ∷ [])
 twelve : List ℕ
 twelve = page 0 (0 ∷ 0 ∷ 0 ∷ 0 ∷ 0x303 ∷ 5 ∷ []) [] []
 
--- a window on the rows n..n, columns 0 to right, without segments, whose next block is at `link`
+-- a window of this number on the rows n..n, columns 0 to right, whose next row block and next block are at these addresses
+numbered : ℕ → ℕ → ℕ → ℕ → ℕ → WindowInHand
+numbered number n right rows link =
+    Present (record { block = record { number = number; top = n; bottom = n; left = 0; right = right; link = to link }; rows = to rows })
+
+-- the first window, without segments
 windowOn : ℕ → ℕ → ℕ → WindowInHand
-windowOn n right link =
-    Present (record { block = record { top = n; bottom = n; left = 0; right = right; link = to link }; rows = to 0 })
+windowOn n right link = numbered 0 n right 0 link
+
+-- 02: row 3 in a window of columns 0 and 1 with this number, whose row block is the page's: one segment, the code 41
+windowRow3 : ℕ → Called
+windowRow3 number = rowCall plain (page 0x20 (one 0x101) (0x4100 ∷ []) []) (at 3 (numbered number 3 1 0x20 0)) buffer
 
 inHand : WindowInHand → List ℕ
 inHand Absent = []
-inHand (Present w) = w .block .top ∷ w .block .bottom ∷ w .block .left ∷ w .block .right ∷ []
+inHand (Present w) = w .block .number ∷ w .block .top ∷ w .block .bottom ∷ w .block .left ∷ w .block .right ∷ []
 
 -- the lines left after a row, and the window in hand
 nextShown : Called → List ℕ
@@ -289,8 +297,13 @@ tests =
     ∷ same (shown (firstRow plain (two 32))) (0 ∷ 8 ∷ 0 ∷ 0 ∷ 31 ∷ 13 ∷ replicate 132 0x20)
     ∷ same (shown (firstRow plain (two 33))) (10 ∷ 0 ∷ 0 ∷ [])
     -- P12
-    ∷ same (inHand (stateOfStart (startCall 0 (settings false false 0x8080 0x20) twelve) .fields .window)) (3 ∷ 3 ∷ 0 ∷ 5 ∷ [])
+    ∷ same (inHand (stateOfStart (startCall 0 (settings false false 0x8080 0x20) twelve) .fields .window)) (0 ∷ 3 ∷ 3 ∷ 0 ∷ 5 ∷ [])
     ∷ same (shown (rowCall plain twelve (at 4 (windowOn 3 5 0x20)) buffer)) (8 ∷ 4 ∷ 0 ∷ [])
+    -- 02: the next window has one more, though the first was not shown; a cell of a window names it, the fill inside it does not; a number
+    -- above its window's first row is 3
+    ∷ same (nextShown (rowCall plain twelve (at 3 (windowOn 2 5 0x20)) buffer)) (0 ∷ 1 ∷ 3 ∷ 3 ∷ 0 ∷ 5 ∷ [])
+    ∷ same (cellsFrom 0 3 (windowRow3 3)) (0x3200041 ∷ 0x20 ∷ 0x20 ∷ [])
+    ∷ same (shown (windowRow3 4)) (3 ∷ 3 ∷ 0 ∷ [])
     -- the codes that invoke: 128 of S's, 32 of the mask E0, all 256 of the mask 0
     ∷ eqb (invokingCodes 0x8080) 128 ∷ eqb (invokingCodes 0xE000) 32 ∷ eqb (invokingCodes 0x00FF) 256
     -- misreading: an unlatched word ends a latched ignore. 80 latches A000 and is out, 41 is out, 80 has 0001, 42 is out again
@@ -315,5 +328,5 @@ tests =
     ∷ []
 
 pub marked : every tests ≡ true
-unfolding same every shownAs shown cellsFrom partShown counts times rises settings sheetS memoryS stateAt at stateOfStart wordsOfStart stateAfter buffer firstRow clearPart setPart row0 row1 oddRow padded page one two plain timed video nine ten twelve windowOn inHand nextShown tests _>>=_ each runFrom pointer nextWord ahead words good checkSettings timing linesForRows clocks halved invokingCodes sheetOf sheetCall ones onesIn mainBlock mainBlockAt segmentOf segmentsOf restOfBlock blockAt rowBlockAt windowRowAt formatOf redefined W.windowOf W.windowAt W.firstWindow W.dueWindow S.windowInRange S.inRange invokes sourceNumber cell width total allFit boundary edgesFit covered onSide segmentsOn windowRow overlaid nextFields backgroundBlock backgroundRow plan taking put character examine wordCodes codes filled fillByWord fillTo segment segmentsTo rowCells row withCursor rowCall topBlock firstFields windowStart startFrom startCall begin step within rest frame outcomeFor effectCall
+unfolding same every shownAs shown cellsFrom partShown counts times rises settings sheetS memoryS stateAt at stateOfStart wordsOfStart stateAfter buffer firstRow clearPart setPart row0 row1 oddRow padded page one two plain timed video nine ten twelve numbered windowOn windowRow3 inHand nextShown tests _>>=_ each runFrom pointer nextWord ahead words good checkSettings timing linesForRows clocks halved invokingCodes sheetOf sheetCall ones onesIn mainBlock mainBlockAt segmentOf segmentsOf restOfBlock blockAt rowBlockAt windowRowAt formatOf redefined W.windowOf W.windowAt W.firstWindow W.dueWindow S.windowInRange S.inRange invokes sourceNumber windowNumber cell width total allFit boundary edgesFit covered onSide segmentsOn windowRow overlaid nextFields backgroundBlock backgroundRow plan taking put character examine wordCodes codes filled fillByWord fillTo segment segmentsTo rowCells row withCursor rowCall topBlock firstFields windowStart startFrom startCall begin step within rest frame outcomeFor effectCall
 marked = refl

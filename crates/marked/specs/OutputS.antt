@@ -8,7 +8,7 @@ use Rattle.blocks.specs.Main.{mainBlock, mainBlockAt}
 use Rattle.blocks.specs.RowBlock.{segmentOf, segmentsOf, restOfBlock, blockAt, rowBlockAt, windowRowAt, formatOf, redefined}
 use Rattle.windows.specs.Window as W
 use Rattle.state.specs.State as S
-use Rattle.codes.specs.Attribute.{invokes, sourceNumber, cell}
+use Rattle.codes.specs.Attribute.{invokes, sourceNumber, windowNumber, cell}
 use Rattle.layout.specs.Layout.{width, total, allFit, boundary, edgesFit, covered, onSide, segmentsOn}
 use Rattle.layout.specs.Overlay.{windowRow, overlaid}
 use Rattle.background.specs.Background.{backgroundBlock, backgroundRow}
@@ -31,11 +31,11 @@ use Rattle.text.specs.Text.{rowsText, frameText, output}
 -- and ends the output with no end line."
 pub output-s :
     (output scriptS
-    ≡ text "row 0 lines 8 attr 000 words 12\n100041 500042 100281 000220\n"
-    ++ text "row 1 lines 8 attr 000 words 3\n000220 000220 000220 000220\n"
+    ≡ text "row 0 lines 8 attr 000 words 12\n00100041 00500042 00100281 00000220\n"
+    ++ text "row 1 lines 8 attr 000 words 3\n00000220 00000220 00000220 00000220\n"
     ++ text "end rows 2 words 22\n")
     × (output recordsS ≡ text "refused script at 144\n")
     × (output (recordsS ++ wordRecords 0x22 (0x8000 ∷ []) ++ (0 ∷ []))
-    ≡ text "row 0 lines 8 attr 000 words 12\n100041 500042 100281 000220\n" ++ text "refused 7 row 1 at 008000\n")
-unfolding _>>=_ each runFrom pointer nextWord ahead words good checkSettings mainBlock mainBlockAt segmentOf segmentsOf restOfBlock blockAt rowBlockAt windowRowAt formatOf redefined W.windowOf W.windowAt W.firstWindow W.dueWindow S.windowInRange S.inRange invokes sourceNumber cell width total allFit boundary edgesFit covered onSide segmentsOn windowRow overlaid nextFields backgroundBlock backgroundRow plan taking put character examine wordCodes codes filled fillByWord fillTo segment segmentsTo rowCells row withCursor rowCall topBlock firstFields windowStart startFrom begin step within rest frame linesForRows switched registered accepted settingsAfter memoryAfter unset numberFrom records script register wordRecords recordsS digits fewest rowLine moreCells cellLine endLine refusalLine scriptLine rowsText frameText output
+    ≡ text "row 0 lines 8 attr 000 words 12\n00100041 00500042 00100281 00000220\n" ++ text "refused 7 row 1 at 008000\n")
+unfolding _>>=_ each runFrom pointer nextWord ahead words good checkSettings mainBlock mainBlockAt segmentOf segmentsOf restOfBlock blockAt rowBlockAt windowRowAt formatOf redefined W.windowOf W.windowAt W.firstWindow W.dueWindow S.windowInRange S.inRange invokes sourceNumber windowNumber cell width total allFit boundary edgesFit covered onSide segmentsOn windowRow overlaid nextFields backgroundBlock backgroundRow plan taking put character examine wordCodes codes filled fillByWord fillTo segment segmentsTo rowCells row withCursor rowCall topBlock firstFields windowStart startFrom begin step within rest frame linesForRows switched registered accepted settingsAfter memoryAfter unset numberFrom records script register wordRecords recordsS digits fewest rowLine moreCells cellLine endLine refusalLine scriptLine rowsText frameText output
 output-s = (refl, refl, refl)

@@ -6,3 +6,4 @@ pub mod RunLaws
 pub mod Agree
 pub mod ReadBounds
 pub mod Related
+pub mod Gives

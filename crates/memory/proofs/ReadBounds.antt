@@ -28,6 +28,11 @@ weaken l (dones h) = dones h
 weaken l refuses = refuses
 weaken {k} l (asks {k = i} h g) = asks {n = k} {k = i} (omega arith) g
 
+pub implies : {A : Type 0} {P Q : A → Type 0} {n : ℕ} {p : Reading A} → ((a : A) → P a → Q a) → Reads P n p → Reads Q n p
+implies f (dones {a} h) = dones (f a h)
+implies f refuses = refuses
+implies f (asks l g) = asks l (λ w y. implies f (g w y))
+
 module _ {A B : Type 0} {P : A → Type 0} {Q : B → Type 0} {h : A → Reading B} where
   pub bind : {n k t : ℕ} {p : Reading A} → n + k ≤ t → Reads P n p → ((a : A) → P a → Reads Q k (h a)) → Reads Q t (p >>= h)
   unfolding _>>=_

@@ -74,11 +74,11 @@ below i (l ∷ ls) xs e =
 pub all-within : (ls xs : List ℕ) → within ls xs ≡ true → Within ls xs
 all-within ls xs e = (size ls xs e, below 0 ls xs e)
 
--- a state's numbers are 19
+-- a state's numbers are 20
 taken : (b : Bool) (t s : State) → (if b then Fit t else Unfit) ≡ Fit s → b ≡ true
 taken true t s e = refl
 taken false t s e = cc
 
-pub state-size : (xs : List ℕ) (s : State) → stateIn xs ≡ Fit s → length xs ≡ 19
+pub state-size : (xs : List ℕ) (s : State) → stateIn xs ≡ Fit s → length xs ≡ 20
 unfolding stateIn
 state-size xs s e = size stateLimits xs (taken (within stateLimits xs) (stateAt xs) s e)

@@ -68,7 +68,7 @@ unfoldable pub windowAt : List ℕ → WindowInHand
 windowAt xs =
     if yes (at xs 12)
     then Present (record {
-      block = record { top = at xs 13; bottom = at xs 14; left = at xs 15; right = at xs 16; link = to (at xs 18) };
+      block = record { number = at xs 19; top = at xs 13; bottom = at xs 14; left = at xs 15; right = at xs 16; link = to (at xs 18) };
       rows = to (at xs 17);
     })
     else Absent

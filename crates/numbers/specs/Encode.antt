@@ -19,7 +19,7 @@ isHeld Absent = false
 isHeld (Present w) = true
 
 abbrev pub held : WindowInHand → Window
-held Absent = record { block = record { top = 0; bottom = 0; left = 0; right = 0; link = to 0 }; rows = to 0 }
+held Absent = record { block = record { number = 0; top = 0; bottom = 0; left = 0; right = 0; link = to 0 }; rows = to 0 }
 held (Present w) = w
 
 unfoldable pub stateNumbers : State → List ℕ
@@ -30,4 +30,5 @@ stateNumbers s =
     ∷ s .fields .next .address ∷ number (isHeld (s .fields .window))
     ∷ held (s .fields .window) .block .top ∷ held (s .fields .window) .block .bottom
     ∷ held (s .fields .window) .block .left ∷ held (s .fields .window) .block .right
-    ∷ held (s .fields .window) .rows .address ∷ held (s .fields .window) .block .link .address ∷ []
+    ∷ held (s .fields .window) .rows .address ∷ held (s .fields .window) .block .link .address
+    ∷ held (s .fields .window) .block .number ∷ []

@@ -20,11 +20,11 @@ settingsLimits =
     1 ∷ 1 ∷ 2 ∷ 1 ∷ 65535 ∷ 65535 ∷ 65535 ∷ 65535 ∷ 65535 ∷ 65535 ∷ 65535 ∷ 65535 ∷ 65535 ∷ 65535 ∷ 65535 ∷ 65535 ∷ 65535 ∷ 1 ∷ []
 
 -- latch, row, lines left, cursor X, Y, fill code, fill flag; scan lines, row attributes, CURS, CURE; next row block; whether there
--- is a window, its first row, last row, first column, last column, next row block, next window block
+-- is a window, its first row, last row, first column, last column, next row block, next window block, its number
 abbrev pub stateLimits : List ℕ
 stateLimits =
     65535 ∷ 65535 ∷ 65535 ∷ 255 ∷ 255 ∷ 255 ∷ 1 ∷ 255 ∷ 65535 ∷ 255 ∷ 255 ∷ 4294967295
-    ∷ 1 ∷ 255 ∷ 255 ∷ 255 ∷ 255 ∷ 4294967295 ∷ 4294967295 ∷ []
+    ∷ 1 ∷ 255 ∷ 255 ∷ 255 ∷ 255 ∷ 4294967295 ∷ 4294967295 ∷ 255 ∷ []
 
 -- the same as facts on numbers, from the place i on
 abbrev pub Below : ℕ → List ℕ → List ℕ → Type 0

@@ -80,6 +80,7 @@ pub fn state_in(numbers: &[u32]) -> StateIn
         255, // last column
         4294967295, // next row block
         4294967295, // the next window block
+        255, // its number
     ];
     if within(&limits, numbers) {
         StateIn::Fit(state_at(numbers))
@@ -181,6 +182,7 @@ fn window_at(n: &[u32]) -> WindowInHand
     if n[12] == 1 {
         let link = Pointer { address: n[18] };
         let block = WindowBlock {
+            number: n[19] as u8,
             top: n[13] as u8,
             bottom: n[14] as u8,
             left: n[15] as u8,

@@ -9,7 +9,7 @@ ghost use lib.ListN.{length};
 ghost use Rattle.numbers.specs.Encode.{number, isHeld, held, stateNumbers};
 
 pub fn write_state(state: State, into: &mut [u32])
-    requires { ⌜ length (now into) ≡ 19 ⌝ }
+    requires { ⌜ length (now into) ≡ 20 ⌝ }
     ensures { λ _. ⌜ now (into .exit) ≡ stateNumbers state ⌝ }
 {
     let f = state.fields;
@@ -41,6 +41,7 @@ pub fn write_state(state: State, into: &mut [u32])
         b.right as u32,
         w.rows.address,
         b.link.address,
+        b.number as u32,
     ];
     write(&numbers, into);
 }
@@ -67,6 +68,7 @@ fn held(in_hand: WindowInHand) -> Window
         WindowInHand::Absent => {
             let null = Pointer { address: 0 };
             let block = WindowBlock {
+                number: 0,
                 top: 0,
                 bottom: 0,
                 left: 0,

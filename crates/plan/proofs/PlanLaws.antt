@@ -63,7 +63,7 @@ module _ (m : List ℕ) (σ : Settings) (f : Fields) where
               arith,
               due .0,
               reads-given 0 m b (background-reads σ f) d .0,
-              reads-given 0 m b (overlaid-reads σ (f .row) w (due .1)) u .0,
+              reads-given 0 m b (overlaid-reads σ (f .row) w (due .1 .0)) u .0,
             )
 
 -- check 2, and checks 3 and 4

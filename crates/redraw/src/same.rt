@@ -110,7 +110,8 @@ fn in_hand(v: WindowInHand, w: WindowInHand) -> bool {
 fn windows(a: Window, b: Window) -> bool {
     let v = a.block;
     let w = b.block;
-    (v.top == w.top)
+    (v.number == w.number)
+        & (v.top == w.top)
         & (v.bottom == w.bottom)
         & (v.left == w.left)
         & (v.right == w.right)

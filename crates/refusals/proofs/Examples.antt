@@ -75,7 +75,7 @@ fields left w = record {
 -- a window on the rows top to bottom, columns 1 and 2, with its row block and the next window block at these addresses
 window : ℕ → ℕ → ℕ → ℕ → WindowInHand
 window top bottom rows link =
-    Present (record { block = record { top = top; bottom = bottom; left = 1; right = 2; link = to link }; rows = to rows })
+    Present (record { block = record { number = 0; top = top; bottom = bottom; left = 1; right = 2; link = to link }; rows = to rows })
 
 -- a memory with a row block of one segment at 2: its code pointer, its attribute pointer, L and V in one word
 block : ℕ → ℕ → ℕ → List ℕ

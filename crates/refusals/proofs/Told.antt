@@ -35,8 +35,7 @@ use Rattle.background.specs.Background.{backgroundBlock, backgroundRow}
 use Rattle.plan.specs.Plan.{plan}
 use Rattle.codes.specs.declared.CodeSettings.{CodeSettings}
 use Rattle.codes.specs.declared.Source.{Source}
-use Rattle.codes.specs.declared.Source.the-variants.{Background, Window}
-use Rattle.codes.specs.Attribute.{invokes, latches}
+use Rattle.codes.specs.Attribute.{Background, Window, invokes, latches}
 use Rattle.codes.specs.Codes.{Drawing, examine, wordCodes, codes}
 use Rattle.cells.specs.Cells.{fillByWord, fillTo, segment, segmentsTo, rowCells}
 use Rattle.row.specs.Row.{Row, Called, row, answered, rowCall}
@@ -68,16 +67,16 @@ module _ {ns : List ℕ} where
   unfolding redefined
   redefined-refuses linear p t = if-refuses (null p) dones (bind (words-refuse linear 3 p) λ b. dones)
 
-  window-refuses : has 8 ns ≡ true → (linear : Bool) (least : ℕ) (p : Pointer) → Refuses ns (windowAt linear least p)
+  window-refuses : has 8 ns ≡ true → (linear : Bool) (number least : ℕ) (p : Pointer) → Refuses ns (windowAt linear number least p)
   unfolding windowAt
-  window-refuses h linear least p =
+  window-refuses h linear number least p =
       if-refuses (null p) dones (bind (words-refuse linear 6 p) λ b.
-      check-then 8 (inOrder (windowOf linear b .block) && leb least (windowOf linear b .block .top)) h λ _ _. dones)
+      check-then 8 (inOrder (windowOf linear number b .block) && leb least (windowOf linear number b .block .top)) h λ _ _. dones)
 
   due-refuses : has 8 ns ≡ true → (linear : Bool) (row : ℕ) (w : WindowInHand) → Refuses ns (dueWindow linear row w)
   unfolding dueWindow
   due-refuses h linear row Absent = dones
-  due-refuses h linear row (Present w) = if-refuses (ltb (w .block .bottom) row) (window-refuses h linear _ _) dones
+  due-refuses h linear row (Present w) = if-refuses (ltb (w .block .bottom) row) (window-refuses h linear _ _ _) dones
 
   -- the main block of a top register
   top-refuses : has 6 ns ≡ true → has 14 ns ≡ true → (linear : Bool) (top : PointerWords) → Refuses ns (topBlock linear top)
@@ -92,7 +91,7 @@ unfolding startFrom checkSettings windowStart firstWindow
 start-refuses latch σ =
     check-then 2 (good σ) refl λ _ _.
     bind (top-refuses refl refl (σ .linear) (σ .top)) λ m.
-    bind (window-refuses refl (σ .linear) 0 _) λ w. dones
+    bind (window-refuses refl (σ .linear) 0 0 _) λ w. dones
 
 -- a shift call
 lines-refuse : (linear : Bool) (m : MainBlock) → Refuses shiftNumbers (Shift.firstLines linear m)
@@ -170,9 +169,9 @@ module _ (σ : CodeSettings) where
     cells-refuse : (o : Overlay) (gs : List Segment) (d : Drawing) → Refuses effectNumbers (rowCells σ fill o gs d)
     unfolding rowCells
     cells-refuse none gs d = segments-refuse Background gs 132 d
-    cells-refuse (over first end ws) gs d =
+    cells-refuse (over number first end ws) gs d =
         bind (segments-refuse Background (segmentsOn (Before first) (σ .hidden) 0 gs) first d) λ d₁.
-        bind (segments-refuse Window ws end _) λ d₂. segments-refuse Background _ 132 _
+        bind (segments-refuse (Window number) ws end _) λ d₂. segments-refuse Background _ 132 _
 
 row-refuses : (σ : Settings) (s : State) → Refuses effectNumbers (row σ s)
 unfolding row

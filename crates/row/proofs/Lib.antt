@@ -1,3 +1,4 @@
 pub mod RowBound
 pub mod RowAlike
 pub mod RowLaws
+pub mod RowWindow

@@ -14,16 +14,21 @@ use Rattle.settings.specs.declared.Settings.{Settings}
 use Rattle.state.specs.declared.Fields.{Fields}
 use Rattle.state.specs.declared.State.{State}
 use Rattle.row.specs.Row.{codeSettings, Row, row, withCursor, Called, answered, rowCall}
+use Rattle.windows.proofs.WindowBounds.{Placed, After}
 use Rattle.plan.proofs.PlanBounds.{plan-reads}
 use Rattle.codes.specs.Codes.{blank}
 use Rattle.cells.proofs.CellBounds.{cells-read}
 
--- 132 cells, and a next state one row further, within 4095, with fewer lines left
+-- 132 cells, and a next state one row further, within 4095, with fewer lines left, the same fill, and a window in hand whose number is
+-- at most its first row
 pub record Drawn (s : State) (r : Row) : Type 0 where
   pub whole : length (r .drawing .cells) ≡ 132
   pub within : s .fields .row + s .fields .left ≤ 4095
   pub numbered : r .next .row ≡ s .fields .row + 1
   pub fewer : r .next .left < s .fields .left
+  pub fill : r .next .fill ≡ s .fields .fill
+  pub placed : Placed (r .next .window)
+  pub after : After (s .fields .window) (r .next .window)
 
 -- a row: 167 words of blocks, 30 segments of 384, and 3 fill runs
 pub row-reads : (σ : Settings) (s : State) → Reads (Drawn s) 11690 (row σ s)
@@ -32,7 +37,16 @@ row-reads σ s =
     bind {n = 167} {k = 11523} (lit≤ tt) (plan-reads σ (s .fields)) λ p hp.
     bind {n = 11523} {k = 0} (lit≤ tt)
     (cells-read (codeSettings σ) (s .fields .fill) (p .overlay) (p .segments) (blank (s .latch)) (hp .few) (hp .narrow) (hp .inside) (hp .edges) (refl, refl)) λ d h.
-    dones (record { whole = omega (arith, h .0, h .1); within = hp .within; numbered = hp .numbered; fewer = hp .fewer })
+    dones
+    (record {
+      whole = omega (arith, h .0, h .1);
+      within = hp .within;
+      numbered = hp .numbered;
+      fewer = hp .fewer;
+      fill = hp .fill;
+      placed = hp .placed;
+      after = hp .after;
+    })
 
 -- the cursor's mark adds no cell
 pub cursor-length : (σ : Settings) (f : Fields) (cs : List ℕ) → length (withCursor σ f cs) ≡ length cs

@@ -28,7 +28,7 @@ use Rattle.row.specs.Row.{codeSettings, drawnBy, row}
 -- what a sound plan gives the cells
 inside : (hidden : Bool) (o : Overlay) → Overlays.Inside hidden o → Inside hidden o
 inside hidden none h = lit≤ tt
-inside hidden (over first end ws) h = (h .1, h .2)
+inside hidden (over number first end ws) h = (h .1, h .2)
 
 drawable : (hidden : Bool) (f : Fields) (p : Plan) → Bounds.Sound hidden f p → Drawable hidden (p .overlay) (p .segments)
 drawable hidden f p s = record { narrow = s .narrow; inside = inside hidden (p .overlay) (s .inside); edges = s .edges }

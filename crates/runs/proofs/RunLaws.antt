@@ -2,7 +2,7 @@
 use mathlib.Core.Path.{_≡_, refl, ap, ap₂, sym, _∙_}
 use mathlib.Core.List.{List, [], _∷_}
 use mathlib.Core.Bool.{Bool, true, false, _&&_, _||_, not, and-false}
-use Prim.Native.Nat.{ℕ, zero, suc, _+_, _-_, _*_, _/_, _<_, _≤_}
+use Prim.Native.Nat.{ℕ, zero, suc, _+_, _-_, _*_, _/_, _%_, _<_, _≤_}
 use native.Mathlib.Omega.{arith}
 use lib.ListN.{length, getD, drop, set, length-set}
 use lib.Seq.{drop-cons}
@@ -26,7 +26,7 @@ use Rattle.codes.specs.Attribute.{invokes, latches, ignores, cell}
 use Rattle.codes.specs.Codes.{Drawing, movedTo, taking, put, character, examine, wordCodes, codes}
 use Rattle.codes.specs.Answers.{soFar}
 use Rattle.runs.specs.Runs.{codesIn, characters, examined, inForce, cursorOf, withWord, penOf}
-use Rattle.codes.proofs.CodeLaws.{cell-code, cell-small, character-put, character-out, examine-word, examine-latch}
+use Rattle.codes.proofs.CodeLaws.{cell-code, cell-room, character-put, character-out, examine-word, examine-latch}
 
 -- ---- one character ----
 
@@ -50,10 +50,10 @@ module _ (hidden : Bool) (source : Source) (end a code : ℕ) (p : Pen) (cs : Li
 
 -- what an attribute makes of a character, in a row with room up to a column
 pub in-force-room : (attribute : InForce) (hidden : Bool) (source : Source) (end a n : ℕ) → attribute ≡ inForce hidden source end a → end ≤ n
-    → (attribute .limit ≤ n) × (attribute .bits ≤ 4000000000)
+    → (attribute .limit ≤ n) × (attribute .bits % 256 ≡ 0)
 in-force-room attribute hidden source end a n e l = (
   omega (arith, ap (λ (k : InForce). k .limit) e, limit-least (hidden || not (ignores a)) end),
-  omega (arith, ap (λ (k : InForce). k .bits) e, cell-small source a),
+  omega (arith, ap (λ (k : InForce). k .bits) e, cell-room source a),
 )
 
 pub column-room : (attribute : InForce) (hidden : Bool) (source : Source) (end a column : ℕ) → attribute ≡ inForce hidden source end a → column ≤ end

@@ -8,7 +8,7 @@ use codes::attribute;
 use memory::Pointer;
 ghost use mathlib.Core.Path.{_≡_};
 ghost use mathlib.Core.Bool.{Bool, true};
-ghost use Prim.Native.Nat.{ℕ, _+_, _-_, _*_, _/_, _≤_, _<_};
+ghost use Prim.Native.Nat.{ℕ, _+_, _-_, _*_, _/_, _%_, _≤_, _<_};
 ghost use lib.ListN.{length, getD, drop};
 ghost use lib.Dec.{ltb};
 ghost use Rattle.memory.specs.Word.{if_then_else_};
@@ -226,7 +226,7 @@ fn in_force(hidden: bool, room: Room, attribute: u16) -> InForce
 
 // A character at a column, unless it has to stand before it. Gives the column after it.
 fn put_code(attribute: InForce, code: u8, column: usize, cells: &mut [u32]) -> usize
-    requires { ⌜ (attribute .limit ≤ length (now cells)) × (attribute .bits ≤ 4000000000) ⌝ }
+    requires { ⌜ (attribute .limit ≤ length (now cells)) × (attribute .bits % 256 ≡ 0) ⌝ }
     ensures { λ r. ⌜ r ≡ (if ltb column (attribute .limit) then column + 1 else column) ⌝ }
     ensures { λ r. ⌜ ((hidden : Bool) (source : Source) (end a : ℕ) (p : Pen) → attribute ≡ inForce hidden source end a → p .column ≡ column → end ≤ length (now (cells .entry)) → soFar (movedTo r p) (now (cells .exit)) ≡ character hidden source end a code (soFar p (now (cells .entry)))) ⌝ }
 {

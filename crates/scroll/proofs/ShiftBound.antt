@@ -55,7 +55,7 @@ edge-reads : (linear : Bool) (soft : PointerWords) (hard : MainBlock) → Lines 
 unfolding edgeLines
 edge-reads linear soft hard h =
     if-reads (upward hard) (λ _. weaken (lit≤ tt) (first-reads linear hard h)) λ _.
-    bind {n = 7} {k = 83} (lit≤ tt) (top-reads linear soft) λ m k. first-reads linear m k
+    bind {n = 7} {k = 83} (lit≤ tt) (top-reads linear soft) λ m k. first-reads linear m (k .0)
 
 -- ---- what is given is in range ----
 pub again : (up : Bool) (g : Offset) (top : PointerWords) → Small g → inRange (shifted up g top .scroll) ≡ true
@@ -87,7 +87,7 @@ shift-reads σ soft last =
     bind {n = 0} {k = 97} (lit≤ tt) (check-reads 3 (inRange last)) λ _ h.
     bind {n = 7} {k = 90} (lit≤ tt) (top-reads (σ .linear) (σ .top)) λ hard k.
     if-reads (enabled hard)
-    (λ _. bind {n = 90} {k = 0} (lit≤ tt) (edge-reads (σ .linear) soft hard k) λ n j.
+    (λ _. bind {n = 90} {k = 0} (lit≤ tt) (edge-reads (σ .linear) soft hard (k .0)) λ n j.
     dones
     (reached-again (upward hard) n (σ .top) soft _ (j .1)
     (moved-phase (rateNumber hard) (omega arith) (fromLast (upward hard) last) (from-last-small (upward hard) last h .phase))))

@@ -7,26 +7,40 @@ use native.Mathlib.Omega.{arith}
 use lib.Dec.{leb}
 use borrow.Author.Tests.{leb-true}
 use Rattle.memory.proofs.ReadBounds.{both}
+use Rattle.windows.specs.declared.Window.{Window}
 use Rattle.windows.specs.declared.WindowInHand.{WindowInHand}
 use Rattle.windows.specs.declared.WindowInHand.the-variants.{Absent, Present}
 use Rattle.windows.specs.Window.{inOrder}
+use Rattle.windows.specs.Answers.{Numbered}
 use Rattle.windows.proofs.WindowBounds.{Placed, in-order}
 use Rattle.state.specs.declared.Fields.{Fields}
 use Rattle.memory.specs.Address.{isAddress}
 use Rattle.state.specs.State.{formatInRange, windowInRange, inRange}
 
--- a window of a state in range is in order
+-- what the first two clauses of its check tell of a window in hand
+ordered : (w : Window) → windowInRange (Present w) ≡ true → (inOrder (w .block) ≡ true) × (leb (w .block .number) (w .block .top) ≡ true)
+unfolding windowInRange
+ordered w h = both (inOrder (w .block)) _ (both (inOrder (w .block) && leb (w .block .number) (w .block .top)) _ (both _ (isAddress (w .block .link .address)) h .0) .0)
+
+-- a window of a state in range is in order, and its number at most its first row
 pub window-placed : (w : WindowInHand) → windowInRange w ≡ true → Placed w
 unfolding windowInRange
 window-placed Absent h = tt
-window-placed (Present w) h =
-    in-order (w .block) (both (inOrder (w .block)) _ (both (inOrder (w .block) && isAddress (w .rows .address)) _ h .0) .0)
+window-placed (Present w) h = (in-order (w .block) (ordered w h .0), leb-true (w .block .number) (w .block .top) (ordered w h .1))
 
 pub placed : (f : Fields) → inRange f ≡ true → Placed (f .window)
 unfolding inRange
 placed f h =
     window-placed (f .window)
     (both (leb (f .row + f .left) 4095 && formatInRange (f .format) && isAddress (f .next .address)) (windowInRange (f .window)) h .1)
+
+-- so it is at most its last row
+at-most-last : (w : WindowInHand) → Placed w → Numbered w
+at-most-last Absent h = tt
+at-most-last (Present w) h = omega arith
+
+pub numbered : (f : Fields) → inRange f ≡ true → Numbered (f .window)
+numbered f h = at-most-last (f .window) (placed f h)
 
 -- a state in range has its lines within 4095
 pub lines-within : (f : Fields) → inRange f ≡ true → f .row + f .left ≤ 4095

@@ -19,10 +19,11 @@ stateOf latch f = record { latch = latch; fields = f }
 abbrev pub formatInRange : RowFormat → Bool
 formatInRange t = leb 1 (t .lines) && leb (t .lines) 32 && leb (t .curs) 31 && leb (t .cure) 31 && leb (t .attributes) 1023
 
--- "window rows or columns out of order or range"
+-- "window rows or columns out of order or range"; "a number above its window's first row, as rows rise" (02)
 unfoldable pub windowInRange : WindowInHand → Bool
 windowInRange Absent = true
-windowInRange (Present w) = inOrder (w .block) && isAddress (w .rows .address) && isAddress (w .block .link .address)
+windowInRange (Present w) =
+    inOrder (w .block) && leb (w .block .number) (w .block .top) && isAddress (w .rows .address) && isAddress (w .block .link .address)
 
 -- Refusal 3: "state out of range: row + lines left > 4095, .."
 unfoldable pub inRange : Fields → Bool

@@ -51,6 +51,7 @@ fn window_in_range(in_hand: WindowInHand) -> bool
         WindowInHand::Present(w) => {
             let block = w.block;
             windows::in_order(block)
+                & (block.number <= block.top)
                 & memory::is_address(w.rows.address)
                 & memory::is_address(w.block.link.address)
         }

@@ -34,7 +34,7 @@ startFrom m latch state answer Settings-in.Unfit = stated 255 state answer
 
 unfoldable pub hostStart : List ℕ → List ℕ → ℕ → List ℕ → List ℕ → Stated
 hostStart settings m latch state answer =
-    if eqb (length state) 19 && eqb (length answer) 3
+    if eqb (length state) 20 && eqb (length answer) 3
     then startFrom m latch state answer (settingsIn settings)
     else stated 255 state answer
 

@@ -38,7 +38,7 @@ pub extern "C" fn thagaduvin_start(
 ) -> u8
     ensures { λ r. ⌜ stated r (now (state .exit)) (now (answer .exit)) ≡ hostStart (now (settings .entry)) (now (memory .entry)) latch (now (state .entry)) (now (answer .entry)) ⌝ }
 {
-    if state.len() != 19 {
+    if state.len() != 20 {
         return 255;
     }
     if answer.len() != 3 {

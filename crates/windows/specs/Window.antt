@@ -13,10 +13,11 @@ use Rattle.windows.specs.declared.WindowInHand.{WindowInHand}
 use Rattle.windows.specs.declared.WindowInHand.the-variants.{Absent, Present}
 
 -- "Window (6). Link to the next window block (2); first window row block (2); first row high byte, last row low; first
--- column high byte, last column low."
-unfoldable pub windowOf : Bool → List ℕ → Window
-windowOf linear b = record {
+-- column high byte, last column low." Its number is that "along the chain, from 0" (02): each block that was read counts.
+unfoldable pub windowOf : Bool → ℕ → List ℕ → Window
+windowOf linear number b = record {
   block = record {
+    number = number;
     link = pointer linear (at b 0) (at b 1);
     top = high (at b 4);
     bottom = low (at b 4);
@@ -32,19 +33,21 @@ inOrder b = leb (b .top) (b .bottom) && leb (b .left) (b .right) && leb (b .righ
 
 -- Refusal 8: "first row > last, first row <= the last row of the one before, first column > last, last column > 131". The
 -- row after the last row of the one before is `least`, 0 where there is none.
-unfoldable pub windowAt : Bool → ℕ → Pointer → Reading WindowInHand
-windowAt linear least p = if null p then done Absent else do
+unfoldable pub windowAt : Bool → ℕ → ℕ → Pointer → Reading WindowInHand
+windowAt linear number least p = if null p then done Absent else do
   b ← words linear 6 p
-  let w = windowOf linear b
+  let w = windowOf linear number b
   check 8 (inOrder (w .block) && leb least (w .block .top))
   done (Present w)
 
 -- "The first window block is read at the start."
 unfoldable pub firstWindow : Bool → Pointer → Reading WindowInHand
-firstWindow linear p = windowAt linear 0 p
+firstWindow linear p = windowAt linear 0 0 p
 
 -- "When the row number has passed a window's last row, the next block, and no more, is read before the row."
 unfoldable pub dueWindow : Bool → ℕ → WindowInHand → Reading WindowInHand
 dueWindow linear row Absent = done Absent
 dueWindow linear row (Present w) =
-    if ltb (w .block .bottom) row then windowAt linear (w .block .bottom + 1) (w .block .link) else done (Present w)
+    if ltb (w .block .bottom) row
+    then windowAt linear (w .block .number + 1) (w .block .bottom + 1) (w .block .link)
+    else done (Present w)

@@ -4,13 +4,15 @@ use memory::Pointer;
 use memory::WordsRead;
 ghost use mathlib.Core.Path.{_≡_};
 ghost use mathlib.Core.Bool.{_&&_};
+ghost use Prim.Native.Nat.{_≤_};
 ghost use lib.Dec.{leb};
 ghost use Rattle.memory.specs.Reading.{run};
 ghost use Rattle.windows.specs.Window.{windowOf, inOrder, windowAt, firstWindow, dueWindow};
-ghost use Rattle.windows.specs.Answers.{windowRead};
+ghost use Rattle.windows.specs.Answers.{windowRead, Numbered};
 
-// What a window keeps while it is in hand: its rows and columns, first and last, and the next window block.
+// What a window keeps while it is in hand: its number along the chain, its rows and columns, first and last, and the next window block.
 pub struct WindowBlock {
+    pub number: u8,
     pub top: u8,
     pub bottom: u8,
     pub left: u8,
@@ -40,11 +42,12 @@ pub enum WindowRead {
 pub fn first_window(mem: &[u16], linear: bool, p: Pointer) -> WindowRead
     ensures { λ r. ⌜ windowRead r ≡ run (now (mem .entry)) (firstWindow linear p) ⌝ }
 {
-    window_at(mem, linear, 0, p)
+    window_at(mem, linear, 0, 0, p)
 }
 
 // The window in hand for a row: the next one where the row has passed the last row of this one.
 pub fn due_window(mem: &[u16], linear: bool, row: u16, in_hand: WindowInHand) -> WindowRead
+    requires { ⌜ Numbered «in_hand» ⌝ }
     ensures { λ r. ⌜ windowRead r ≡ run (now (mem .entry)) (dueWindow linear row «in_hand») ⌝ }
 {
     match in_hand {
@@ -55,7 +58,8 @@ pub fn due_window(mem: &[u16], linear: bool, row: u16, in_hand: WindowInHand) ->
         WindowInHand::Present(w) => {
             if (w.block.bottom as u16) < row {
                 let link = w.block.link;
-                window_at(mem, linear, w.block.bottom as u16 + 1, link)
+                let number = w.block.number as u16 + 1;
+                window_at(mem, linear, number, w.block.bottom as u16 + 1, link)
             } else {
                 WindowRead::Read {
                     window: WindowInHand::Present(w),
@@ -73,9 +77,11 @@ pub fn in_order(b: WindowBlock) -> bool
     (b.top <= b.bottom) & (b.left <= b.right) & (b.right <= 131)
 }
 
-// The window whose block a pointer leads to, none where that is null; its first row is `least` or a later one.
-fn window_at(mem: &[u16], linear: bool, least: u16, p: Pointer) -> WindowRead
-    ensures { λ r. ⌜ windowRead r ≡ run (now (mem .entry)) (windowAt linear least p) ⌝ }
+// The window whose block a pointer leads to, none where that is null; its first row is `least` or a later one. A number is at most
+// `least`, so it fits eight bits where the window may follow.
+fn window_at(mem: &[u16], linear: bool, number: u16, least: u16, p: Pointer) -> WindowRead
+    requires { ⌜ number ≤ least ⌝ }
+    ensures { λ r. ⌜ windowRead r ≡ run (now (mem .entry)) (windowAt linear number least p) ⌝ }
 {
     if p.address == 0 {
         return WindowRead::Read {
@@ -86,7 +92,7 @@ fn window_at(mem: &[u16], linear: bool, least: u16, p: Pointer) -> WindowRead
     let mut b = [0u16; 6];
     match memory::read_words(mem, linear, p, &mut b) {
         WordsRead::Whole => {
-            let w = window_of(linear, &b);
+            let w = window_of(linear, memory::low_byte(number), &b);
             let block = w.block;
             if may_follow(least, block) {
                 WindowRead::Read {
@@ -108,10 +114,11 @@ fn may_follow(least: u16, b: WindowBlock) -> bool
     in_order(b) & (least <= b.top as u16)
 }
 
-fn window_of(linear: bool, b: &[u16; 6]) -> Window
-    ensures { λ r. ⌜ r ≡ windowOf linear (now (b .entry)) ⌝ }
+fn window_of(linear: bool, number: u8, b: &[u16; 6]) -> Window
+    ensures { λ r. ⌜ r ≡ windowOf linear number (now (b .entry)) ⌝ }
 {
     let block = WindowBlock {
+        number,
         top: memory::high_byte(b[4]),
         bottom: memory::low_byte(b[4]),
         left: memory::high_byte(b[5]),

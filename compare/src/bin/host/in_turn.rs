@@ -31,6 +31,18 @@ pub fn latch(rng: &mut Rng) -> u16 {
     }
 }
 
+/// What the rows of a frame show of their windows: a cell of source 2 has the number of the window in hand, any
+/// other one 0; and the number goes on by one with each block read.
+fn numbered(before: &[u32; STATE], after: &[u32; STATE], cells: &[u32; CELLS]) -> bool {
+    let due = before[12] == 1 && before[1] > before[14];
+    let number = before[19] + u32::from(due);
+    let cell = |&cell: &u32| match cell >> 20 & 3 {
+        2 => cell >> 24 == number,
+        _ => cell >> 24 == 0,
+    };
+    (after[12] == 0 || after[19] == number) && cells.iter().all(cell)
+}
+
 /// Row calls from a frame's first state on, until they have drawn all lines, or one is refused, or
 /// the frame is left. A call refused 1 is no row, and does not end the frame. Gives the last state;
 /// the words of each row come after those of the start.
@@ -53,8 +65,12 @@ fn rows(
             must(status == 1, "a row of 131 cells is refused 1", &state)?;
         }
         let status = calls.row(settings, memory, &state, CELLS, ROW_ANSWER)?;
+        let before = state;
         state = calls.state.left();
-        if status != 0 {
+        if status == 0 {
+            let right = numbered(&before, &state, &calls.cells.left());
+            must(right, "cells name their window", &(before, state))?;
+        } else {
             return Ok((End::Refused, state));
         }
         let answer: [u32; ROW_ANSWER] = calls.answer.left();

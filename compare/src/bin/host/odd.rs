@@ -109,6 +109,12 @@ fn window(rng: &mut Rng, state: &mut [u32; STATE]) {
     if rng.once_in(2) {
         (state[15], state[16]) = (0, CELLS as u32 - 1);
     }
+    // A window's number is at most its first row.
+    state[19] = match rng.below(8) {
+        0 => state[13] + 1,
+        1 | 2 => state[13],
+        _ => up_to(rng, state[13]),
+    };
 }
 
 /// An address: of a real state, near the end of memory, odd or any.
@@ -127,7 +133,7 @@ fn address(rng: &mut Rng, real: &[u32; STATE], words: usize) -> u32 {
 /// Changes one thing about a state.
 fn change(rng: &mut Rng, state: &mut [u32; STATE], words: usize) {
     let real = *state;
-    match rng.below(14) {
+    match rng.below(15) {
         0 => state[0] = rng.word().into(),
         1 => state[0] ^= 0x2000,
         2 => state[2] = 1,
@@ -150,6 +156,7 @@ fn change(rng: &mut Rng, state: &mut [u32; STATE], words: usize) {
         10 => state[12] ^= 1,
         11 => state[rng.below(STATE)] = rng.pick(&ENDS),
         12 => state[rng.below(STATE)] ^= 1 << rng.below(32),
+        13 => state[19] = rng.pick(&[0, real[13], real[13].wrapping_add(1), 255, 256]),
         _ => {
             let n = rng.below(STATE);
             state[n] = up_to(rng, STATE_MOST[n]);

@@ -16,14 +16,14 @@ draw-run-requires : tie.Need-draw-run-requires
 draw-run-requires c κs =
     let a = c .before .before .before .args in
     let p = c .before .before .before .pre in
-    let k = around (a .settings .hidden) (a .first) (a .end) (segmentsOf (a .settings .linear) (a .n) (a .window .now)) (segmentsOf (a .settings .linear) (a .count) (a .back .now)) (p .0) in
+    let k = around (a .settings .hidden) (a .number) (a .first) (a .end) (segmentsOf (a .settings .linear) (a .n) (a .window .now)) (segmentsOf (a .settings .linear) (a .count) (a .back .now)) (p .0) in
     ((omega (arith, k .inside, k .after, p .1 .1), omega (arith, p .1 .2)), omega (arith, k .before, p .1 .0))
 
 draw-run-requires-2 : tie.Need-draw-run-requires-2
 draw-run-requires-2 c κs =
     let a = c .before .before .before .before .before .before .before .before .before .before .before .args in
     let p = c .before .before .before .before .before .before .before .before .before .before .before .pre in
-    let k = around (a .settings .hidden) (a .first) (a .end) (segmentsOf (a .settings .linear) (a .n) (a .window .now)) (segmentsOf (a .settings .linear) (a .count) (a .back .now)) (p .0) in
+    let k = around (a .settings .hidden) (a .number) (a .first) (a .end) (segmentsOf (a .settings .linear) (a .n) (a .window .now)) (segmentsOf (a .settings .linear) (a .count) (a .back .now)) (p .0) in
     let r = c .before .before .before .before .before .before .before .draw-run in
     let h = rw (c .before .before .before .before2 .given .1) at (r .ensures .0) in (
       (omega (arith, k .after, p .1 .1, r .kept .1 .0), omega (arith, h .1, p .1 .2)),
@@ -34,7 +34,7 @@ draw-run-requires-3 : tie.Need-draw-run-requires-3
 draw-run-requires-3 c κs =
     let a = c .before .before .before .before .before .before .before .before .before .before .before .before .before .before .before .before .before .before .before .before .args in
     let p = c .before .before .before .before .before .before .before .before .before .before .before .before .before .before .before .before .before .before .before .before .pre in
-    let k = around (a .settings .hidden) (a .first) (a .end) (segmentsOf (a .settings .linear) (a .n) (a .window .now)) (segmentsOf (a .settings .linear) (a .count) (a .back .now)) (p .0) in
+    let k = around (a .settings .hidden) (a .number) (a .first) (a .end) (segmentsOf (a .settings .linear) (a .n) (a .window .now)) (segmentsOf (a .settings .linear) (a .count) (a .back .now)) (p .0) in
     let r = c .before .before .before .before .before .before .before .before .before .before .before .before .before .before .before .before .draw-run in
     let s = c .before .before .before .before .before .before .before .before .draw-run2 in
     let h = rw (c .before .before .before .before .before .before .before .before .before .before .before .before .before2 .given .1) at (r .ensures .0) in

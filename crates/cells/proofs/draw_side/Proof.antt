@@ -31,14 +31,14 @@ loop-holds c = (omega arith, refl, omega arith, omega arith, rw sub-zero, rw sub
 
 draw-chosen-requires : tie.Need-draw-chosen-requires Inv-loop μ-loop
 draw-chosen-requires c κs =
-    let a = c .before .before .before .before .before .before .before .before .before .args in
+    let a = c .before .before .before .before .before .before .before .before .before .before .args in
     let l = c .before .before .before .before .before .loop in
     let t = side-total 0 (a .mem .now) (a .stretch .settings .linear) (a .stretch .settings .hidden) (a .stretch .side) (l .at) (a .count - l .i) (l .i) (a .segments .now) (omega arith) in
-    (rw (c .before .on-side .ensures, c .before .before .width .ensures, c .before .before .before .segment-at .ensures) (omega (arith, t, l .inv .4, l .inv .1, c .before .before .before .before .before .before .before .before .before .pre .1)), omega arith)
+    (rw (c .before .on-side .ensures, c .before .before .width .ensures, c .before .before .before .segment-at .ensures) (omega (arith, t, l .inv .4, l .inv .1, c .before .before .before .before .before .before .before .before .before .before .pre .1)), omega arith)
 
 returns : tie.Need-returns Inv-loop μ-loop
 returns c =
-    let a = c .before .before .before .before .before .before .before .before .before .before .before .before .before .before .before .args in
+    let a = c .before .before .before .before .before .before .before .before .before .before .before .before .before .before .before .before .args in
     let l = c .before .before .before .before .before .before .before .before .before .before .before .loop in
     let test = c .before .before .before .before .before .before .before .before .before .before .loop-test .taken in (
       (omega arith, omega arith),
@@ -51,19 +51,19 @@ returns c =
 add-at : tie.Need-add-at Inv-loop μ-loop
 add-at c =
     let g = c .before .before .before .before .before .before .before .before .before .segment-at in
-    omega (arith, c .before .before .before .before .before .before .before .before .before .before .before .loop .inv .0, c .before .before .before .before .before .before .before .before .before .before .before .loop .inv .2, c .before .before .before .before .before .before .before .before .before .before .before .before .before .before .before .fits .count, width-byte (c .before .before .before .before .before .before .before .before .before .before .before .before .before .before .before .args .stretch .settings .hidden) (g .result) (g .ok .1 .1 .1 .1 .0 .1) (g .ok .1 .1 .1 .1 .1 .0 .1), c .before .before .before .before .before .before .before .before .width .ensures)
+    omega (arith, c .before .before .before .before .before .before .before .before .before .before .before .loop .inv .0, c .before .before .before .before .before .before .before .before .before .before .before .loop .inv .2, c .before .before .before .before .before .before .before .before .before .before .before .before .before .before .before .before .fits .count, width-byte (c .before .before .before .before .before .before .before .before .before .before .before .before .before .before .before .before .args .stretch .settings .hidden) (g .result) (g .ok .1 .1 .1 .1 .0 .1) (g .ok .1 .1 .1 .1 .1 .0 .1), c .before .before .before .before .before .before .before .before .width .ensures)
 
 add-i : tie.Need-add-i Inv-loop μ-loop
 add-i c =
-    let k : c .before .before .before .before .before .before .before .before .before .before .before .loop .i + 1 < 256 = omega (arith, c .before .before .before .before .before .before .before .before .before .before .loop-test .taken, c .before .before .before .before .before .before .before .before .before .before .before .before .before .before .before .fits .count) in
+    let k : c .before .before .before .before .before .before .before .before .before .before .before .loop .i + 1 < 256 = omega (arith, c .before .before .before .before .before .before .before .before .before .before .loop-test .taken, c .before .before .before .before .before .before .before .before .before .before .before .before .before .before .before .before .fits .count) in
     search (needs, k)
 
 loop-again : tie.Need-loop-again Inv-loop μ-loop
 loop-again c =
-    let a = c .before .before .before .before .before .before .before .before .before .before .before .before .before .before .before .args in
+    let a = c .before .before .before .before .before .before .before .before .before .before .before .before .before .before .before .before .args in
     let l = c .before .before .before .before .before .before .before .before .before .before .before .loop in
     let test = c .before .before .before .before .before .before .before .before .before .before .loop-test .taken in
-    let fit = c .before .before .before .before .before .before .before .before .before .before .before .before .before .before .before .fits .count in
+    let fit = c .before .before .before .before .before .before .before .before .before .before .before .before .before .before .before .before .fits .count in
     let g = c .before .before .before .before .before .before .before .before .before .segment-at in
     let e = c .before .before .before .before .before .draw-chosen in
     let h = rw (c .before .after .given .1, c .before .before .before .before .before .before .before .on-side .ensures, c .before .before .before .before .before .before .before .before .width .ensures, c .before .before .before .before .before .before .before .before .before .segment-at .ensures) at (e .ensures .0) in
@@ -82,7 +82,7 @@ loop-again c =
 
 returns-2 : tie.Need-returns-2 Inv-loop μ-loop
 returns-2 c =
-    let a = c .before .before .before .before .before .args in
+    let a = c .before .before .before .before .before .before .args in
     let l = c .before .loop in
     let z = side-none-total 0 (a .mem .now) (a .stretch .settings .linear) (a .stretch .settings .hidden) (a .stretch .side) (l .at) (a .count - l .i) (l .i) (a .segments .now) (omega arith) in (
       (omega (arith, z, l .inv .4), omega arith),

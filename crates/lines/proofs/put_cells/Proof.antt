@@ -1,5 +1,5 @@
 -- The whole line is what was written so far, then what the cells from i on make of it (`moreCells`): each turn writes one cell,
--- 7 bytes, and the end of the line is what no cells make. 132 cells and the end are 924 bytes.
+-- 9 bytes, and the end of the line is what no cells make. 132 cells and the end are 1188 bytes.
 use mathlib.Core.Path.{_≡_, refl, _∙_}
 use mathlib.Core.List.{List, _++_, append-assoc}
 use Prim.Native.Nat.{ℕ, _+_, _-_, _*_, _≤_, _<_}
@@ -14,7 +14,7 @@ use Rattle.lines.proofs.put_cells.Tie as tie
 
 abbrev Inv-loop : tie.InvT-loop
 Inv-loop out₀ start cells columns at₀ i₀ out at i =
-    (i ≤ columns) × (length out ≡ 2048) × (at + 1 ≡ start + 7 * i)
+    (i ≤ columns) × (length out ≡ 2048) × (at + 1 ≡ start + 9 * i)
     × (take at₀ out₀ ++ moreCells (drop i₀ (take columns cells)) ≡ take at out ++ moreCells (drop i (take columns cells)))
 
 abbrev μ-loop : tie.MeasureT-loop

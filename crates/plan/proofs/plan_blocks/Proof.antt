@@ -2,10 +2,14 @@
 use mathlib.Core.Path.{sym, _∙_}
 use Prim.Native.Nat.{_+_, _≤_}
 use native.Mathlib.Omega.{arith}
+use Rattle.state.proofs.StateLaws.{numbered}
 use Rattle.plan.proofs.PlanLaws.{window-refused, background-refused, overlay-refused, edges-off, edges-on, plan-words}
 use borrow.Author.Needs.{needs}
 use Rattle.plan.proofs.plan_blocks.Statement.{statement}
 use Rattle.plan.proofs.plan_blocks.Tie as tie
+
+due-window-requires : tie.Need-due-window-requires
+due-window-requires c κs = numbered (c .before .args .fields) (c .before .pre .0)
 
 next-fields-requires : tie.Need-next-fields-requires
 next-fields-requires c κs = c .before .before .before .before .before .before .before .before .before .before .before .before .before .before .before .before .before .before .before .pre .1
@@ -73,7 +77,7 @@ pub plan-blocks-spec : {M : Type 1} → statement M
 plan-blocks-spec =
     tie.close
     (tie.spec
-    (λ c κs. search needs)
+    due-window-requires
     (λ c. search needs)
     (λ c κs. search needs)
     (λ c. search needs)

@@ -13,7 +13,7 @@ use Rattle.start.proofs.start_window.Tie as tie
 add-t14 : tie.Need-add-t14
 unfolding firstWindow
 add-t14 c =
-    omega (arith, reads-given 0 _ (λ i. c .before .before .before .before .before .before .shared-slice-known .given i .fits) (window-reads _ 0 _) (sym (rw (c .before .before .window .given .1) at (c .before .before .before .before .first-window .ensures))) .0)
+    omega (arith, reads-given 0 _ (λ i. c .before .before .before .before .before .before .shared-slice-known .given i .fits) (window-reads _ 0 0 _ (omega arith)) (sym (rw (c .before .before .window .given .1) at (c .before .before .before .before .first-window .ensures))) .0)
 
 returns : tie.Need-returns
 returns c =

@@ -10,7 +10,7 @@ returns c = rw (c .enum-told .given .1)
 returns-2 : tie.Need-returns-2
 unfolding windowInRange
 returns-2 c =
-    let y = c .before .before in
+    let y = c .before .before .before in
     rw (y .before .before .before .in-hand .given .1, y .in-order .ensures, c .before .is-address .ensures, c .is-address2 .ensures)
 
 pub window-in-range-spec : {M : Type 1} → statement M

@@ -1,4 +1,6 @@
+-- A number at most the last row is at most the least row, one more each.
 use mathlib.Core.Path.{sym}
+use native.Mathlib.Omega.{arith}
 use borrow.Author.Tests.{lt-ltb, le-ltb}
 use Rattle.memory.proofs.Laws.{run-done}
 use Rattle.windows.specs.Window.{dueWindow}
@@ -6,13 +8,16 @@ use borrow.Author.Needs.{needs}
 use Rattle.windows.proofs.due_window.Statement.{statement}
 use Rattle.windows.proofs.due_window.Tie as tie
 
+window-at-requires : tie.Need-window-at-requires
+window-at-requires c κs = omega (arith, rw (c .before .before .before .before .before .before .in-hand .given .1) at (c .before .before .before .before .before .before .before .before .before .pre))
+
 returns : tie.Need-returns
 unfolding dueWindow
 returns c = rw (c .enum-told .given .1) (sym (run-done _ _ _))
 
 returns-2 : tie.Need-returns-2
 unfolding dueWindow
-returns-2 c = rw (c .before .before .before .before .before .before .in-hand .given .1, lt-ltb _ _ (c .before .before .before .if1 .taken)) (c .window-at .ensures)
+returns-2 c = rw (c .before .before .before .before .before .before .before .in-hand .given .1, lt-ltb _ _ (c .before .before .before .before .if1 .taken)) (c .window-at .ensures)
 
 returns-3 : tie.Need-returns-3
 unfolding dueWindow
@@ -27,7 +32,9 @@ due-window-spec =
     (λ c. search needs)
     (λ c. search needs)
     (λ c. search needs)
-    (λ c κs. search needs)
+    (λ c. search needs)
+    (λ c. search needs)
+    window-at-requires
     returns
     returns-2
     returns-3)

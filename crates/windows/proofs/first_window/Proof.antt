@@ -1,3 +1,4 @@
+use native.Mathlib.Omega.{arith}
 use Rattle.windows.specs.Window.{firstWindow}
 use borrow.Author.Needs.{needs}
 use Rattle.windows.proofs.first_window.Statement.{statement}
@@ -11,5 +12,5 @@ pub first-window-spec : {M : Type 1} → statement M
 first-window-spec =
     tie.close
     (tie.spec
-    (λ c κs. search needs)
+    (λ c κs. omega arith)
     returns)

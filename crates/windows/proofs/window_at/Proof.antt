@@ -1,12 +1,24 @@
-use mathlib.Core.Path.{sym, _∙_}
-use borrow.Author.Tests.{eq-eqb, ne-eqb}
+-- A number at most the least row fits its byte where the check passes; the check does not look at it where it fails.
+use mathlib.Core.Path.{sym, _∙_, _≡_}
+use Prim.Native.Nat.{ℕ, _≤_, _<_}
+use native.Mathlib.Omega.{arith}
+use mathlib.Core.Bool.{true, _&&_}
+use lib.Dec.{leb}
+use Rattle.memory.specs.Word.{low}
+use Rattle.memory.proofs.ReadBounds.{both}
+use borrow.Author.Tests.{eq-eqb, ne-eqb, leb-true}
 use Rattle.memory.specs.Reading.{given}
 use Rattle.memory.proofs.Laws.{step-given, step-refused, run-done, check-passed, check-failed}
 use Rattle.memory.proofs.WordLaws.{read-whole, read-refused}
-use Rattle.windows.specs.Window.{windowAt}
+use Rattle.windows.specs.declared.WindowBlock.{WindowBlock}
+use Rattle.windows.specs.Window.{windowOf, inOrder, windowAt}
 use borrow.Author.Needs.{needs}
 use Rattle.windows.proofs.window_at.Statement.{statement}
 use Rattle.windows.proofs.window_at.Tie as tie
+
+-- a number at most the least row, which is at most the first row, fits its byte
+byte : (number least : ℕ) (b : WindowBlock) → number ≤ least → inOrder b && leb least (b .top) ≡ true → b .top < 256 → low number ≡ number
+byte number least b h t k = omega (arith, leb-true least (b .top) (both (inOrder b) (leb least (b .top)) t .1))
 
 returns : tie.Need-returns
 unfolding windowAt
@@ -15,17 +27,19 @@ returns c = rw (eq-eqb _ 0 (c .if1 .taken)) (sym (run-done _ _ _))
 returns-2 : tie.Need-returns-2
 unfolding windowAt
 returns-2 c =
-    let r = c .before .before .before .before .before .before .before .before .read-words in
-    rw (ne-eqb _ 0 (c .before .before .before .before .before .before .before .before .before .before .if1 .left), c .before .before .before .window-of .ensures)
-    (sym (step-given 0 _ _ _ (read-whole _ _ 6 _ _ _ (r .ensures) (c .before .before .before .before .before .enum-told .given .1) (r .kept .1 .1 .1 .0))
-    ∙ check-passed _ _ _ _ _ (sym (rw (c .before .before .before .window-of .ensures) at (c .before .may-follow .ensures)) ∙ c .if2 .taken) ∙ run-done _ _ _))
+    let r = c .before .before .before .before .before .before .before .before .before .read-words in
+    let t = sym (c .before .may-follow .ensures) ∙ c .if2 .taken in
+    let number = byte _ _ (c .before .before .before .window-of .result .block) (c .before .before .before .before .before .before .before .before .before .before .before .before .before .before .pre) t (omega (arith, c .before .before .before .window-of .ok)) in
+    rw (ne-eqb _ 0 (c .before .before .before .before .before .before .before .before .before .before .before .if1 .left), c .before .before .before .window-of .ensures, c .before .before .before .before .before .low-byte .ensures, number)
+    (sym (step-given 0 _ _ _ (read-whole _ _ 6 _ _ _ (r .ensures) (c .before .before .before .before .before .before .enum-told .given .1) (r .kept .1 .1 .1 .0))
+    ∙ check-passed _ _ _ _ _ (rw (c .before .before .before .window-of .ensures, c .before .before .before .before .before .low-byte .ensures, number) at t) ∙ run-done _ _ _))
 
 returns-3 : tie.Need-returns-3
-unfolding windowAt
+unfolding windowAt windowOf
 returns-3 c =
-    let r = c .before .before .before .before .before .before .before .before .before .read-words in
-    rw (c .fault-of .ensures, ne-eqb _ 0 (c .before .before .before .before .before .before .before .before .before .before .before .if1 .left))
-    (sym (step-given 0 _ _ _ (read-whole _ _ 6 _ _ _ (r .ensures) (c .before .before .before .before .before .before .enum-told .given .1) (r .kept .1 .1 .1 .0))
+    let r = c .before .before .before .before .before .before .before .before .before .before .read-words in
+    rw (c .fault-of .ensures, ne-eqb _ 0 (c .before .before .before .before .before .before .before .before .before .before .before .before .if1 .left))
+    (sym (step-given 0 _ _ _ (read-whole _ _ 6 _ _ _ (r .ensures) (c .before .before .before .before .before .before .before .enum-told .given .1) (r .kept .1 .1 .1 .0))
     ∙ check-failed _ _ _ _ _ (sym (rw (c .before .before .before .before .window-of .ensures) at (c .before .before .may-follow .ensures)) ∙ c .before .if2 .left)))
 
 returns-4 : tie.Need-returns-4
@@ -42,6 +56,7 @@ window-at-spec =
     (λ c. search needs)
     (λ c κs. search needs)
     (λ c. search needs)
+    (λ c κs. search needs)
     (λ c κs. search needs)
     (λ c κs. search needs)
     (λ c κs. search needs)

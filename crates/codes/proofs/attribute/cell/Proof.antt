@@ -1,12 +1,13 @@
--- The sum is the definition's, once the source has its number; each part stays below its bits, so nothing wraps.
-use Rattle.codes.specs.Attribute.{cell}
+-- The sum is the definition's; each part stays below its bits, so nothing wraps.
+use mathlib.Core.Path.{refl}
+use Rattle.codes.specs.Attribute.{sourceNumber, windowNumber, cell}
 use borrow.Author.Needs.{needs}
 use Rattle.codes.proofs.attribute.cell.Statement.{statement}
 use Rattle.codes.proofs.attribute.cell.Tie as tie
 
 returns : tie.Need-returns
-unfolding cell
-returns c = rw (c .source-number .ensures .0)
+unfolding cell sourceNumber windowNumber
+returns c = refl
 
 pub cell-spec : {M : Type 1} → statement M
 cell-spec =
@@ -16,7 +17,10 @@ cell-spec =
     (λ c. search needs)
     (λ c. search needs)
     (λ c. search needs)
-    (λ c κs. search needs)
+    (λ c. search needs)
+    (λ c. search needs)
+    (λ c. search needs)
+    (λ c. search needs)
     (λ c. search needs)
     (λ c. search needs)
     returns)

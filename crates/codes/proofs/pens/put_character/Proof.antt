@@ -10,15 +10,15 @@ use Rattle.codes.proofs.pens.put_character.Tie as tie
 
 slice-write-cells : tie.Need-slice-write-cells
 slice-write-cells c =
-    let a = c .before .before .before .before .args in
-    omega (arith, ltb-true (a .pen .column) (a .room .end) (both (c .before .before .is-shown .result) (ltb (a .pen .column) (a .room .end)) (c .before .if1 .taken) .1))
+    let a = c .before .before .before .before .before .args in
+    omega (arith, ltb-true (a .pen .column) (a .room .end) (both (c .before .before .before .is-shown .result) (ltb (a .pen .column) (a .room .end)) (c .before .before .if1 .taken) .1))
 
 returns : tie.Need-returns
 returns c =
-    let a = c .before .before .before .before .before .args in
-    let k = ltb-true (a .pen .column) (a .room .end) (both (c .before .before .before .is-shown .result) (ltb (a .pen .column) (a .room .end)) (c .before .before .if1 .taken) .1) in
+    let a = c .before .before .before .before .before .before .args in
+    let k = ltb-true (a .pen .column) (a .room .end) (both (c .before .before .before .before .is-shown .result) (ltb (a .pen .column) (a .room .end)) (c .before .before .before .if1 .taken) .1) in
     rw (c .moved-to .ensures, c .before .cell .ensures)
-    (omega arith, character-put _ _ _ _ _ _ _ (rw (c .before .before .before .is-shown .ensures) at (c .before .before .if1 .taken)) (omega arith))
+    (omega arith, character-put _ _ _ _ _ _ _ (rw (c .before .before .before .before .is-shown .ensures) at (c .before .before .before .if1 .taken)) (omega arith))
 
 returns-2 : tie.Need-returns-2
 returns-2 c = (omega arith, character-out _ _ _ _ _ _ _ (rw (c .before .is-shown .ensures) at (c .if1 .left)))

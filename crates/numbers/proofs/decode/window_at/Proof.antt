@@ -7,7 +7,7 @@ use Rattle.numbers.proofs.decode.window_at.Tie as tie
 
 returns : tie.Need-returns
 unfolding windowAt
-returns c = rw (eq-eqb _ _ (c .before .before .before .before .before .before .if1 .taken))
+returns c = rw (eq-eqb _ _ (c .before .before .before .before .before .before .before .if1 .taken))
 
 returns-2 : tie.Need-returns-2
 unfolding windowAt
@@ -17,6 +17,8 @@ pub window-at-spec : {M : Type 1} → statement M
 window-at-spec =
     tie.close
     (tie.spec
+    (λ c. search needs)
+    (λ c. search needs)
     (λ c. search needs)
     (λ c. search needs)
     (λ c. search needs)

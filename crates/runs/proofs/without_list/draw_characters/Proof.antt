@@ -20,19 +20,19 @@ returns c =
 put-character-requires : tie.Need-put-character-requires
 put-character-requires c κs =
     let d = c .before .before .before .before .before .before .draw-pairs in
-    let pre = c .before .before .before .before .before .before .before .before .before .before .before .before .before .before .pre in
-    (omega (arith, d .kept .1 .1 .1 .1 .1 .0, pre .0), rw (d .ensures .0) (omega (arith, c .before .before .before .before .before .before .before .before .lesser .ensures, pre .1)))
+    let pre = c .before .before .before .before .before .before .before .before .before .before .before .before .before .before .before .pre in
+    (omega (arith, d .kept .1 .1 .1 .1 .1 .0, pre .0), rw (d .ensures .0) (omega (arith, c .before .before .before .before .before .before .before .before .before .lesser .ensures, pre .1)))
 
 returns-2 : tie.Need-returns-2
 returns-2 c =
-    let a = c .before .before .before .before .before .before .before .before .before .before .before .before .before .before .before .before .before .args in
-    let pre = c .before .before .before .before .before .before .before .before .before .before .before .before .before .before .before .before .before .pre in
-    let least = c .before .before .before .before .before .before .before .before .before .before .before .lesser .ensures in
+    let a = c .before .before .before .before .before .before .before .before .before .before .before .before .before .before .before .before .before .before .args in
+    let pre = c .before .before .before .before .before .before .before .before .before .before .before .before .before .before .before .before .before .before .pre in
+    let least = c .before .before .before .before .before .before .before .before .before .before .before .before .lesser .ensures in
     let d = c .before .before .before .before .before .before .before .before .before .draw-pairs in
     let put = c .before .before .put-character .ensures in
-    let pairs = c .before .before .before .before .before .before .before .before .before .before .before .lesser .result / 2 in
+    let pairs = c .before .before .before .before .before .before .before .before .before .before .before .before .lesser .result / 2 in
     let more = c .before .before .before .before .before .before .if2 .taken in
-    let shown : a .hidden || not (ignores (a .pen .latch)) ≡ true = sym (c .before .before .before .before .before .before .before .before .before .before .before .before .before .before .is-shown .ensures) ∙ not-false _ (c .before .before .before .before .before .before .before .before .before .before .before .before .before .if1 .left) in (
+    let shown : a .hidden || not (ignores (a .pen .latch)) ≡ true = sym (c .before .before .before .before .before .before .before .before .before .before .before .before .before .before .before .is-shown .ensures) ∙ not-false _ (c .before .before .before .before .before .before .before .before .before .before .before .before .before .before .if1 .left) in (
       put .0,
       sym (d .ensures .1 (a .hidden) (a .room .end) (a .count) shown (pre .0) (omega (arith, least, pre .1)) (omega (arith, least))
           ∙ first-left (a .hidden) (a .room .source) (a .room .end) (a .pen .latch) (a .mem .now) (a .at + pairs) (a .count - 2 * pairs) _ _ (omega (arith, pre .3, more)) (omega (arith, more)) shown
@@ -42,12 +42,12 @@ returns-2 c =
 returns-3 : tie.Need-returns-3
 unfolding characters codesIn
 returns-3 c =
-    let a = c .before .before .before .before .before .before .before .before .before .before .before .args in
-    let pre = c .before .before .before .before .before .before .before .before .before .before .before .pre in
-    let least = c .before .before .before .before .before .lesser .ensures in
+    let a = c .before .before .before .before .before .before .before .before .before .before .before .before .args in
+    let pre = c .before .before .before .before .before .before .before .before .before .before .before .before .pre in
+    let least = c .before .before .before .before .before .before .lesser .ensures in
     let d = c .before .before .before .draw-pairs in
-    let shown : a .hidden || not (ignores (a .pen .latch)) ≡ true = sym (c .before .before .before .before .before .before .before .before .is-shown .ensures) ∙ not-false _ (c .before .before .before .before .before .before .before .if1 .left) in
-    let none : a .count - 2 * (c .before .before .before .before .before .lesser .result / 2) ≡ 0 = omega (arith, c .if2 .left) in (
+    let shown : a .hidden || not (ignores (a .pen .latch)) ≡ true = sym (c .before .before .before .before .before .before .before .before .before .is-shown .ensures) ∙ not-false _ (c .before .before .before .before .before .before .before .before .if1 .left) in
+    let none : a .count - 2 * (c .before .before .before .before .before .before .lesser .result / 2) ≡ 0 = omega (arith, c .if2 .left) in (
       rw (d .ensures .0) (omega (arith, least, pre .1)),
       sym (d .ensures .1 (a .hidden) (a .room .end) (a .count) shown (pre .0) (omega (arith, least, pre .1)) (omega (arith, least)) ∙ rw none),
     )

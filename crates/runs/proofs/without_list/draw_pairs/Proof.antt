@@ -11,7 +11,7 @@ use Rattle.codes.specs.Attribute.{ignores, cell}
 use Rattle.codes.specs.Codes.{movedTo}
 use Rattle.codes.specs.Answers.{soFar}
 use Rattle.runs.specs.Runs.{codesIn, characters}
-use Rattle.codes.proofs.CodeLaws.{cell-small}
+use Rattle.codes.proofs.CodeLaws.{cell-room}
 use Rattle.runs.proofs.RunLaws.{codes-pair, pair-put}
 use borrow.Author.Needs.{needs}
 use Rattle.runs.proofs.without_list.draw_pairs.Statement.{statement}
@@ -48,7 +48,7 @@ add-w c =
 
 add-cells : tie.Need-add-cells Inv-loop μ-loop
 add-cells c =
-    let k : c .before .before .before .before .cell .result + c .high-byte .result < 4294967296 = omega (arith, c .before .before .before .before .cell .ensures, cell-small (c .before .before .before .before .before .before .before .args .source) (c .before .before .before .before .before .before .before .args .pen .latch)) in
+    let k : c .before .before .before .before .cell .result + c .high-byte .result < 4294967296 = omega (arith, c .before .before .before .before .cell .ensures, cell-room (c .before .before .before .before .before .before .before .args .source) (c .before .before .before .before .before .before .before .args .pen .latch)) in
     search (needs, k)
 
 mul-cells : tie.Need-mul-cells Inv-loop μ-loop
@@ -77,7 +77,7 @@ slice-write-cells c = omega (arith, c .before .before .before .loop .inv .1, c .
 
 add-cells-3 : tie.Need-add-cells-3 Inv-loop μ-loop
 add-cells-3 c =
-    let k : c .before .before .before .before .before .cell .result + c .low-byte .result < 4294967296 = omega (arith, c .before .before .before .before .before .cell .ensures, cell-small (c .before .before .before .before .before .before .before .before .args .source) (c .before .before .before .before .before .before .before .before .args .pen .latch)) in
+    let k : c .before .before .before .before .before .cell .result + c .low-byte .result < 4294967296 = omega (arith, c .before .before .before .before .before .cell .ensures, cell-room (c .before .before .before .before .before .before .before .before .args .source) (c .before .before .before .before .before .before .before .before .args .pen .latch)) in
     search (needs, k)
 
 mul-cells-3 : tie.Need-mul-cells-3 Inv-loop μ-loop
