@@ -57,7 +57,7 @@ enum {
     THAGADUVIN_WINDOW_RIGHT, /* last column, 0 to 255 */
     THAGADUVIN_WINDOW_ROW_BLOCK, /* address of its next row block, any number */
     THAGADUVIN_WINDOW_BLOCK, /* address of the next window block, any number */
-    THAGADUVIN_WINDOW_NUMBER, /* its number along the chain, from 0, 0 to 255 */
+    THAGADUVIN_WINDOW_NUMBER, /* the window's number along the chain, from 0, 0 to 255; above its first row is refusal 3 */
     THAGADUVIN_STATE        /* 20 numbers */
 };
 
