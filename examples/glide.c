@@ -87,7 +87,9 @@ static void print_cells(const uint32_t *cells) {
 
 /* A refused call: here none is. */
 static int refused(uint8_t status, const uint32_t *answer) {
-    printf("refused %u row %u at %06X\n", status, answer[THAGADUVIN_ANSWER_ROW], answer[THAGADUVIN_ANSWER_ADDRESS]);
+    printf("refused %u row %u at %06X", status, answer[THAGADUVIN_ANSWER_ROW], answer[THAGADUVIN_ANSWER_ADDRESS]);
+    if (status == 7) printf(" from %06X", answer[THAGADUVIN_ANSWER_FROM]);
+    putchar('\n');
     return status;
 }
 

@@ -36,7 +36,11 @@ int main(void) {
         putchar('\n');
     }
     if (status == 255) puts("numbers that no field can have");
-    else if (status != 0) printf("refused %u row %u at %06X\n", status, told[THAGADUVIN_ANSWER_ROW], told[THAGADUVIN_ANSWER_ADDRESS]);
+    else if (status != 0) {
+        printf("refused %u row %u at %06X", status, told[THAGADUVIN_ANSWER_ROW], told[THAGADUVIN_ANSWER_ADDRESS]);
+        if (status == 7) printf(" from %06X", told[THAGADUVIN_ANSWER_FROM]);
+        putchar('\n');
+    }
     else printf("end rows %u words %u\n", state[THAGADUVIN_ROW], words);
     return status;
 }

@@ -3,16 +3,18 @@
  * A slice is a pointer and its count of elements, one argument after the other. No pointer is null, also where the count is 0. A
  * slice that a call writes (not const) overlaps no other slice of that call.
  *
- * Every call gives a status: 0, accepted; 1 to 14 but 5, 20, 21, 23 and 24, the number of the refusal; 255, a slice has not the count that its table says, or
- * a number that its place cannot have. A 255 writes nothing. A refusal writes the row and the address into the answer and nothing
- * else: state, scroll and cells stay as they were. The count of cells is judged by refusal 1, not by 255. */
+ * Every call gives a status: 0, accepted; 1 to 14 but 5, 20, 21, 23 and 24, the number of the refusal; 255, a slice has not the count
+ * that its table says, a state's latch, cursor, fill or mark of a window is past its range, an effect is none that an effect call writes,
+ * or the mark of totals is above 1. 255 is judged before all, and writes nothing. Any other number past its range is refused as document
+ * 01 says: among settings refusal 2, in a state refusal 3. A refusal writes the row and two addresses into the answer and nothing else:
+ * state, scroll and cells stay as they were. The count of cells is judged by refusal 1, not by 255. */
 #ifndef THAGADUVIN_H
 #define THAGADUVIN_H
 
 #include <stddef.h>
 #include <stdint.h>
 
-/* Settings, with the numbers that a place can have; where nothing is said, 0 to 65535. */
+/* Settings, with the range of each place; where nothing is said, 0 to 65535. A number past it is refusal 2, as are settings not good. */
 enum {
     THAGADUVIN_LINEAR,     /* 1 linear, 0 segmented */
     THAGADUVIN_HIDDEN,     /* 1 Display Hidden */
@@ -36,29 +38,35 @@ enum {
     THAGADUVIN_SETTINGS    /* 18 numbers */
 };
 
-/* A state. An accepted start or row writes all of it; it is handed to the next row as it stands. */
+/* A state. An accepted start or row writes all of it; it is handed to the next row as it stands. A number past its range is refusal 3,
+ * with the row as it stands, but 255 where that is said. */
 enum {
-    THAGADUVIN_LATCH,       /* 0 to 65535 */
-    THAGADUVIN_ROW,         /* 0 to 65535 */
-    THAGADUVIN_LEFT,        /* lines left, 0 to 65535 */
-    THAGADUVIN_CURSOR_X,    /* 0 to 255 */
-    THAGADUVIN_CURSOR_Y,    /* 0 to 255 */
-    THAGADUVIN_FILL_CODE,   /* 0 to 255 */
-    THAGADUVIN_FILL_FLAG,   /* 0 or 1 */
-    THAGADUVIN_SCAN_LINES,  /* 0 to 255 */
-    THAGADUVIN_ATTRIBUTES,  /* row attributes, 0 to 65535 */
-    THAGADUVIN_CURS,        /* 0 to 255 */
-    THAGADUVIN_CURE,        /* 0 to 255 */
-    THAGADUVIN_ROW_BLOCK,   /* address of the next row block, any number */
-    THAGADUVIN_WINDOW,      /* 1 a window is in hand, 0 none: what follows is then written as 0, and only its range is looked at */
-    THAGADUVIN_WINDOW_TOP,  /* first row, 0 to 255 */
+    THAGADUVIN_LATCH,       /* 0 to 65535, else 255 */
+    THAGADUVIN_ROW,         /* any number; above 4095 with the lines left is refusal 3 */
+    THAGADUVIN_LEFT,        /* lines left, any number; the row beside the cut does not look at them */
+    THAGADUVIN_CURSOR_X,    /* 0 to 255, else 255 */
+    THAGADUVIN_CURSOR_Y,    /* 0 to 255, else 255 */
+    THAGADUVIN_FILL_CODE,   /* 0 to 255, else 255 */
+    THAGADUVIN_FILL_FLAG,   /* 0 or 1, else 255 */
+    THAGADUVIN_SCAN_LINES,  /* 1 to 32 */
+    THAGADUVIN_ATTRIBUTES,  /* row attributes, 0 to 1023 */
+    THAGADUVIN_CURS,        /* 0 to 31 */
+    THAGADUVIN_CURE,        /* 0 to 31 */
+    THAGADUVIN_ROW_BLOCK,   /* address of the next row block, even, of 24 bits */
+    THAGADUVIN_WINDOW,      /* 1 a window is in hand, 0 none, else 255; where there is none, its places are written as 0 and not judged */
+    THAGADUVIN_WINDOW_TOP,  /* first row, at most the last */
     THAGADUVIN_WINDOW_BOTTOM, /* last row, 0 to 255 */
-    THAGADUVIN_WINDOW_LEFT, /* first column, 0 to 255 */
-    THAGADUVIN_WINDOW_RIGHT, /* last column, 0 to 255 */
-    THAGADUVIN_WINDOW_ROW_BLOCK, /* address of its next row block, any number */
-    THAGADUVIN_WINDOW_BLOCK, /* address of the next window block, any number */
-    THAGADUVIN_WINDOW_NUMBER, /* the window's number along the chain, from 0, 0 to 255; above its first row is refusal 3 */
-    THAGADUVIN_STATE        /* 20 numbers */
+    THAGADUVIN_WINDOW_LEFT, /* first column, at most the last */
+    THAGADUVIN_WINDOW_RIGHT, /* last column, 0 to 131 */
+    THAGADUVIN_WINDOW_ROW_BLOCK, /* address of its next row block, even, of 24 bits */
+    THAGADUVIN_WINDOW_BLOCK, /* address of the next window block, even, of 24 bits */
+    THAGADUVIN_WINDOW_NUMBER, /* the window's number along the chain, from 0; at most its first row */
+    /* where each of these three pointers begins in memory, even, of 24 bits: 0 where a register held it, and beside an address 0, where
+     * another is refusal 3 */
+    THAGADUVIN_ROW_BLOCK_FROM, /* the pointer to the next row block */
+    THAGADUVIN_WINDOW_ROW_BLOCK_FROM, /* to the window's next row block */
+    THAGADUVIN_WINDOW_BLOCK_FROM, /* to the next window block */
+    THAGADUVIN_STATE        /* 23 numbers */
 };
 
 /* A scroll, from one frame to the next. An accepted shift call writes all of it; after reset all are 0. Any numbers may stand here: what
@@ -71,17 +79,18 @@ enum {
     THAGADUVIN_SCROLL      /* 3 numbers */
 };
 
-/* Every answer begins with these two. */
+/* Every answer begins with these three. */
 enum {
-    THAGADUVIN_ANSWER_ROW,     /* the row of the call; 0 for a sheet, a start, a latch and a shift */
-    THAGADUVIN_ANSWER_ADDRESS  /* the address of a refusal; 0 in an accepted call */
+    THAGADUVIN_ANSWER_ROW,     /* the row of the call; 0 for a sheet, a start, a latch, a shift and an accepted apply */
+    THAGADUVIN_ANSWER_ADDRESS, /* the address of a refusal; 0 in an accepted call */
+    THAGADUVIN_ANSWER_FROM     /* of refusal 7, where the pointer to that word begins in memory, 0 where a register held it; else 0 */
 };
 
 /* The answer of an accepted sheet: the half lines of an even field and of an odd one, lines for rows, clocks, and how many of the 256 codes
  * invoke an attribute. The first field after enable is even, the next one odd, and so on. Both have the same half lines but when the
  * Z8052 is interlaced. Sync, back porch, active and front porch sum to the field. */
 enum {
-    THAGADUVIN_SHEET_EVEN_SYNC = 2,
+    THAGADUVIN_SHEET_EVEN_SYNC = 3,
     THAGADUVIN_SHEET_EVEN_BACK,
     THAGADUVIN_SHEET_EVEN_RISE,    /* sync fall to blank rise: back porch and active */
     THAGADUVIN_SHEET_EVEN_ACTIVE,
@@ -99,23 +108,23 @@ enum {
     THAGADUVIN_SHEET_CLOCKS_RISE,
     THAGADUVIN_SHEET_CLOCKS_FALL,
     THAGADUVIN_SHEET_INVOKING,
-    THAGADUVIN_SHEET_ANSWER    /* 20 numbers */
+    THAGADUVIN_SHEET_ANSWER    /* 21 numbers */
 };
 
 /* The answer of an accepted start: the words read. */
 enum {
-    THAGADUVIN_START_WORDS = 2,
-    THAGADUVIN_START_ANSWER    /* 3 numbers */
+    THAGADUVIN_START_WORDS = 3,
+    THAGADUVIN_START_ANSWER    /* 4 numbers */
 };
 
 /* The answer of an accepted row: its lines, row attributes, CURS, CURE and the words read. */
 enum {
-    THAGADUVIN_ROW_LINES = 2,
+    THAGADUVIN_ROW_LINES = 3,
     THAGADUVIN_ROW_ATTRIBUTES,
     THAGADUVIN_ROW_CURS,
     THAGADUVIN_ROW_CURE,
     THAGADUVIN_ROW_WORDS,
-    THAGADUVIN_ROW_ANSWER      /* 7 numbers */
+    THAGADUVIN_ROW_ANSWER      /* 8 numbers */
 };
 
 /* Bits of a cell: 7..0 code; 18..8 attribute bits 10..0; 19 attribute bit 14; 21..20 source (0 fill, 1 background, 2 window); 22 the
@@ -139,36 +148,37 @@ enum {
     THAGADUVIN_MAIL_REVERSE = 0x800
 };
 
-/* An effect: its part for a latch with ignore (bit 13) clear, then, 5 places on, the one for a latch with ignore set. A part refuses
- * where the number of its refusal is not 0; else it sets the latch or keeps it. What a part does not use is written as 0. Ten zeros
- * are the empty effect. */
+/* An effect: its part for a latch with ignore (bit 13) clear, then, 6 places on, the one for a latch with ignore set. A part refuses
+ * where the number of its refusal is not 0; else it sets the latch or keeps it. What a part does not use is 0. Twelve zeros are the
+ * empty effect. */
 enum {
-    THAGADUVIN_PART_REFUSAL,   /* number of its refusal, 0 to 13 but 5 */
-    THAGADUVIN_PART_ROW,       /* the refusal's row, 0 to 65535 */
+    THAGADUVIN_PART_REFUSAL,   /* number of its refusal, 0, 2 to 4 or 7 to 13 */
+    THAGADUVIN_PART_ROW,       /* the refusal's row, any number */
     THAGADUVIN_PART_ADDRESS,   /* the refusal's address, any number */
+    THAGADUVIN_PART_FROM,      /* of refusal 7, where the pointer begins, any number; else 0 */
     THAGADUVIN_PART_SET,       /* 1 it sets the latch, 0 it keeps it */
     THAGADUVIN_PART_WORD,      /* the word that it sets, 0 to 65535 */
-    THAGADUVIN_PART,           /* 5 numbers */
-    THAGADUVIN_EFFECT = 10     /* numbers: two parts */
+    THAGADUVIN_PART,           /* 6 numbers */
+    THAGADUVIN_EFFECT = 12     /* numbers: two parts */
 };
 
 /* The answer of an accepted apply: the latch. */
 enum {
-    THAGADUVIN_APPLY_LATCH = 2,
-    THAGADUVIN_APPLY_ANSWER    /* 3 numbers */
+    THAGADUVIN_APPLY_LATCH = 3,
+    THAGADUVIN_APPLY_ANSWER    /* 4 numbers */
 };
 
 /* The answer of a latch call: the latch that the frame hands on. */
 enum {
-    THAGADUVIN_HANDED_ON = 2,
-    THAGADUVIN_LATCH_ANSWER    /* 3 numbers */
+    THAGADUVIN_HANDED_ON = 3,
+    THAGADUVIN_LATCH_ANSWER    /* 4 numbers */
 };
 
 /* The answer of an accepted shift: the frame's hard top, two words for TOP. */
 enum {
-    THAGADUVIN_HARD_FIRST = 2,
+    THAGADUVIN_HARD_FIRST = 3,
     THAGADUVIN_HARD_SECOND,
-    THAGADUVIN_SHIFT_ANSWER    /* 4 numbers */
+    THAGADUVIN_SHIFT_ANSWER    /* 5 numbers */
 };
 
 /* The running totals of a bus report, 64-bit numbers: all 0 before the first row. An accepted call writes all of them; they are handed to the

@@ -1,7 +1,7 @@
 //! Seeded random cases: settings, structured memories, states, row buffers and scripts,
 //! sound ones and damaged ones.
 
-use crate::rules::{self, Edition, Fields, Interlace, Settings, State, Window, CELLS};
+use crate::rules::{self, Edition, Fields, Interlace, Pointer, Settings, State, Window, CELLS};
 use crate::script;
 
 /// A xorshift generator.
@@ -167,6 +167,8 @@ struct Image {
     next: usize,
     /// Word numbers after a page end, or after FFFFFE, that one block or list may cross.
     ends: Vec<usize>,
+    /// One of these that is kept for a block: its pointers then begin on either side.
+    kept: Option<usize>,
     written: Vec<usize>,
 }
 
@@ -187,11 +189,13 @@ impl Image {
                 ends.push(ADDRESSABLE);
             }
         }
+        let kept = if rng.once_in(2) { ends.pop() } else { None };
         Image {
             linear,
             memory: vec![0; words],
             next,
             ends,
+            kept,
             written: Vec::new(),
         }
     }
@@ -207,6 +211,17 @@ impl Image {
         let index = (self.next + gap) % ADDRESSABLE;
         self.next = index + words;
         (index.max(1) * 2) as u32
+    }
+
+    /// An address for a block of a chain; one in `times` crosses the end that is kept.
+    fn place_block(&mut self, rng: &mut Rng, words: usize, times: usize) -> u32 {
+        match self.kept {
+            Some(end) if rng.once_in(times) => {
+                self.kept = None;
+                (end - rng.range(1, words - 1)) as u32 * 2
+            }
+            _ => self.place(rng, words),
+        }
     }
 
     /// Writes what of the words lies in memory.
@@ -612,17 +627,19 @@ impl Frame {
     }
 
     /// Places a chain of blocks, the first words of each being its link. The last one's link is
-    /// chosen among the places of all; one in `far` lies outside memory if that is the fault.
+    /// chosen among the places of all; one in `far` lies outside memory if that is the fault. One block in
+    /// `crosses` may cross an end.
     fn chain(
         &mut self,
         rng: &mut Rng,
         blocks: Vec<Vec<u16>>,
         far: usize,
+        crosses: usize,
         last: impl Fn(&mut Rng, &[u32]) -> u32,
     ) -> Vec<u32> {
         let places: Vec<u32> = blocks
             .iter()
-            .map(|block| self.image.place(rng, block.len()))
+            .map(|block| self.image.place_block(rng, block.len(), crosses))
             .collect();
         for (n, mut block) in blocks.into_iter().enumerate() {
             let mut next = match places.get(n + 1) {
@@ -641,7 +658,7 @@ impl Frame {
 
     /// Row blocks end in a null link or in a loop.
     fn chain_rows(&mut self, rng: &mut Rng, blocks: Vec<Vec<u16>>) -> Vec<u32> {
-        self.chain(rng, blocks, 10, |rng, places| match rng.below(6) {
+        self.chain(rng, blocks, 10, 16, |rng, places| match rng.below(6) {
             0 => places[places.len() - 1],
             1 | 2 => rng.pick(places),
             _ => 0,
@@ -650,7 +667,7 @@ impl Frame {
 
     /// Window blocks end in a null link, seldom in a loop: a loop is refused.
     fn chain_windows(&mut self, rng: &mut Rng, blocks: Vec<Vec<u16>>) -> Vec<u32> {
-        self.chain(rng, blocks, 4, |rng, places| {
+        self.chain(rng, blocks, 4, 2, |rng, places| {
             if rng.once_in(6) {
                 rng.pick(places)
             } else {
@@ -839,12 +856,22 @@ impl Frame {
 
     /// A state that no start need give: anything in range, with blocks of the frame.
     fn state(&self, rng: &mut Rng) -> State {
-        let block = |rng: &mut Rng, among: &[u32]| match rng.below(12) {
-            0 => 0,
-            1 => rng.draw() as u32 & 0xFF_FFFE,
-            2 => self.far_address(rng),
-            _ if among.is_empty() => 0,
-            _ => rng.pick(among),
+        let block = |rng: &mut Rng, among: &[u32]| {
+            let address = match rng.below(12) {
+                0 => 0,
+                1 => rng.draw() as u32 & 0xFF_FFFE,
+                2 => self.far_address(rng),
+                _ if among.is_empty() => 0,
+                _ => rng.pick(among),
+            };
+            // Where it begins is believed, whatever stands there.
+            let from = match rng.below(4) {
+                _ if address == 0 => 0,
+                0 => 0,
+                1 => self.far_address(rng),
+                _ => rng.draw() as u32 & 0xFF_FFFE,
+            };
+            Pointer { address, from }
         };
         let row = match rng.below(4) {
             0 => rng.below(4095),
@@ -894,6 +921,18 @@ impl Frame {
     }
 }
 
+/// Puts a pointer of a state out of range, or at the end of its range: odd, above 24 bits, or null with a
+/// place where it begins.
+fn damage_pointer(rng: &mut Rng, pointer: &mut Pointer) {
+    let number = rng.pick(&[1, 0xFF_FFFE, 0xFF_FFFF, 0x100_0000, u32::MAX]);
+    match rng.below(4) {
+        0 => pointer.address = number,
+        1 => pointer.from = number,
+        2 => pointer.from ^= 1 << rng.below(32),
+        _ => pointer.address = 0,
+    }
+}
+
 /// Puts one field of a state out of range, or at the end of its range.
 fn damage_state(rng: &mut Rng, fields: &mut Fields) {
     let end = rng.pick(&[0, 1, 2, 0x100, 0xFFFF_F000]);
@@ -904,7 +943,7 @@ fn damage_state(rng: &mut Rng, fields: &mut Fields) {
         3 => fields.curs = rng.pick(&[31, 32, 255, u32::MAX]),
         4 => fields.cure = rng.pick(&[31, 32, 255, u32::MAX]),
         5 => fields.attributes = rng.pick(&[1023, 1024, 0xFFFF, u32::MAX]),
-        6 => fields.next_row = rng.pick(&[1, 0xFF_FFFE, 0xFF_FFFF, 0x100_0000, u32::MAX]),
+        6 => damage_pointer(rng, &mut fields.next_row),
         7 => fields.lines_left = 0,
         _ => {
             if let Some(window) = &mut fields.window {
@@ -915,8 +954,8 @@ fn damage_state(rng: &mut Rng, fields: &mut Fields) {
                     1 => window.last_row = rng.pick(&[255, 256, u32::MAX]),
                     2 => window.first_column = window.last_column + 1,
                     3 => window.last_column = rng.pick(&[131, 132, 255, u32::MAX]),
-                    4 => window.next_row = rng.pick(&[1, 0xFF_FFFE, 0x100_0000, u32::MAX]),
-                    _ => window.next_block = rng.pick(&[1, 0xFF_FFFE, 0x100_0000, u32::MAX]),
+                    4 => damage_pointer(rng, &mut window.next_row),
+                    _ => damage_pointer(rng, &mut window.next_block),
                 }
             }
         }

@@ -1,47 +1,73 @@
 //! The calls of include/thagaduvin.h over slices of numbers, on top of the rules. The header has
-//! the tables of places; a slice that does not fit its table gives 255 and nothing is written.
+//! the tables of places. A slice with another count gives 255, and so does a state's number that no check judges,
+//! past its field, or an effect that no effect call writes; then nothing is written. What the rules judge past
+//! its range they refuse: 2 of settings, 3 of a state.
 
 use crate::bus::{Largest, Taken, Totals, Used};
 use crate::mail;
 use crate::rules::{
-    self, Edition, Effect, Field, Fields, Interlace, Part, Refusal, Row, Settings, Sheet, State,
-    Window,
+    self, Edition, Effect, Field, Fields, Interlace, Part, Pointer, Refusal, Row, Settings, Sheet,
+    State, Window,
 };
 use crate::scroll::{self, Scroll};
 
-/// The status of a slice with a wrong count, or with a number that its place cannot have.
+/// The status of a slice with a wrong count, of a state that is none, or of an effect that is none.
 pub const UNFIT: u8 = 255;
 
 /// Counts of the slices.
 pub const SETTINGS: usize = 18;
-pub const STATE: usize = 20;
-pub const EFFECT: usize = 10;
-pub const SHEET_ANSWER: usize = 20;
-pub const START_ANSWER: usize = 3;
-pub const ROW_ANSWER: usize = 7;
-pub const APPLY_ANSWER: usize = 3;
-pub const LATCH_ANSWER: usize = 3;
+pub const STATE: usize = 23;
+/// Places of a state's three pointers, of its window's number, and of where the pointers begin.
+pub const ROW_BLOCK: usize = 11;
+pub const WINDOW_ROW_BLOCK: usize = 17;
+pub const WINDOW_BLOCK: usize = 18;
+pub const WINDOW_NUMBER: usize = 19;
+pub const ROW_BLOCK_FROM: usize = 20;
+pub const WINDOW_ROW_BLOCK_FROM: usize = 21;
+pub const WINDOW_BLOCK_FROM: usize = 22;
+/// A part of an effect, and the effect: two parts.
+pub const PART: usize = 6;
+pub const EFFECT: usize = 2 * PART;
+/// Row, address and pointer of a refusal: every answer begins with these.
+pub const PREFIX: usize = 3;
+pub const SHEET_ANSWER: usize = PREFIX + 18;
+pub const START_ANSWER: usize = PREFIX + 1;
+pub const ROW_ANSWER: usize = PREFIX + 5;
+pub const APPLY_ANSWER: usize = PREFIX + 1;
+pub const LATCH_ANSWER: usize = PREFIX + 1;
 pub const SCROLL: usize = 3;
-pub const SHIFT_ANSWER: usize = 4;
+pub const SHIFT_ANSWER: usize = PREFIX + 2;
 pub const TOTALS: usize = 7;
 pub const BUS_ANSWER: usize = 2;
 pub const MAIL_ANSWER: usize = 1;
 
 const ANY: u32 = u32::MAX;
 
-/// The highest number that each place can have.
+/// The highest number that each setting's field has: above it, settings are not good.
 pub const SETTINGS_MOST: [u32; SETTINGS] = [
     1, 1, 2, 1, 0xFFFF, 0xFFFF, 0xFFFF, 0xFFFF, 0xFFFF, 0xFFFF, 0xFFFF, 0xFFFF, 0xFFFF, 0xFFFF,
     0xFFFF, 0xFFFF, 0xFFFF, 1,
 ];
-pub const STATE_MOST: [u32; STATE] = [
-    0xFFFF, 0xFFFF, 0xFFFF, 255, 255, 255, 1, 255, 0xFFFF, 255, 255, ANY, 1, 255, 255, 255, 255,
-    ANY, ANY, 255,
-];
-pub const EFFECT_MOST: [u32; EFFECT] = [
-    13, 0xFFFF, ANY, 1, 0xFFFF, //
-    13, 0xFFFF, ANY, 1, 0xFFFF,
-];
+/// The highest number in a state's places that no check judges: latch, cursor, fill and the mark of a window.
+pub const STATE_MOST: [u32; STATE] = {
+    let mut most = [ANY; STATE];
+    most[0] = 0xFFFF;
+    most[3] = 255;
+    most[4] = 255;
+    most[5] = 255;
+    most[6] = 1;
+    most[12] = 1;
+    most
+};
+
+/// The numbers of refusal that an effect's part can have.
+pub const PART_REFUSALS: [u32; 10] = [2, 3, 4, 7, 8, 9, 10, 11, 12, 13];
+
+/// Settings that are not good, for numbers that no settings have.
+const NOT_GOOD: Settings = Settings {
+    vsw: u16::MAX,
+    ..crate::script::UNSET
+};
 
 /// The numbers of a slice, if there are as many as highest ones and none is above its own.
 #[inline]
@@ -56,7 +82,9 @@ fn within<'n, const N: usize>(numbers: &'n [u32], most: &[u32; N]) -> Option<&'n
 
 #[inline]
 fn settings_of(numbers: &[u32]) -> Option<Settings> {
-    let n = within(numbers, &SETTINGS_MOST)?;
+    let Some(n) = within(numbers, &SETTINGS_MOST) else {
+        return (numbers.len() == SETTINGS).then_some(NOT_GOOD);
+    };
     Some(Settings {
         linear: n[0] != 0,
         display_hidden: n[1] != 0,
@@ -87,14 +115,18 @@ fn settings_of(numbers: &[u32]) -> Option<Settings> {
 #[inline]
 fn state_of(numbers: &[u32]) -> Option<State> {
     let n = within(numbers, &STATE_MOST)?;
+    let pointer = |address: usize, from: usize| Pointer {
+        address: n[address],
+        from: n[from],
+    };
     let window = (n[12] != 0).then_some(Window {
         first_row: n[13],
         last_row: n[14],
         first_column: n[15],
         last_column: n[16],
-        next_row: n[17],
-        next_block: n[18],
-        number: n[19],
+        next_row: pointer(WINDOW_ROW_BLOCK, WINDOW_ROW_BLOCK_FROM),
+        next_block: pointer(WINDOW_BLOCK, WINDOW_BLOCK_FROM),
+        number: n[WINDOW_NUMBER],
     });
     Some(State {
         latch: n[0] as u16,
@@ -109,32 +141,40 @@ fn state_of(numbers: &[u32]) -> Option<State> {
             attributes: n[8],
             curs: n[9],
             cure: n[10],
-            next_row: n[11],
+            next_row: pointer(ROW_BLOCK, ROW_BLOCK_FROM),
             window,
         },
     })
 }
 
+/// A part of an effect, if an effect call can write it: what a part does not use is 0.
 #[inline]
-fn part_of(n: &[u32]) -> Part {
-    match (n[0], n[3]) {
-        (0, 0) => Part::Keep,
-        (0, _) => Part::Set(n[4] as u16),
-        (number, _) => Part::Refuse(Refusal {
-            number: number as u8,
-            row: n[1],
-            address: n[2],
-        }),
+fn part_of(n: &[u32; PART]) -> Option<Part> {
+    match *n {
+        [0, 0, 0, 0, 0, 0] => Some(Part::Keep),
+        [0, 0, 0, 0, 1, word] => Some(Part::Set(word.try_into().ok()?)),
+        [number, row, address, from, 0, 0]
+            if PART_REFUSALS.contains(&number) && (from == 0 || number == 7) =>
+        {
+            Some(Part::Refuse(Refusal {
+                number: number as u8,
+                row,
+                address,
+                from,
+            }))
+        }
+        _ => None,
     }
 }
 
 #[inline]
 fn effect_of(numbers: &[u32]) -> Option<Effect> {
-    let n = within(numbers, &EFFECT_MOST)?;
-    // 5 is no refusal's number.
-    (n[0] != 5 && n[5] != 5).then(|| Effect {
-        clear: part_of(&n[..5]),
-        set: part_of(&n[5..]),
+    let ([clear, set], []) = numbers.as_chunks::<PART>() else {
+        return None;
+    };
+    Some(Effect {
+        clear: part_of(clear)?,
+        set: part_of(set)?,
     })
 }
 
@@ -185,18 +225,24 @@ fn write_state(state: &State, n: &mut [u32; STATE]) {
     n[8] = f.attributes;
     n[9] = f.curs;
     n[10] = f.cure;
-    n[11] = f.next_row;
+    n[ROW_BLOCK] = f.next_row.address;
+    n[ROW_BLOCK_FROM] = f.next_row.from;
     match &f.window {
-        None => n[12..].fill(0),
+        None => {
+            n[12..ROW_BLOCK_FROM].fill(0);
+            n[WINDOW_ROW_BLOCK_FROM..].fill(0);
+        }
         Some(w) => {
             n[12] = 1;
             n[13] = w.first_row;
             n[14] = w.last_row;
             n[15] = w.first_column;
             n[16] = w.last_column;
-            n[17] = w.next_row;
-            n[18] = w.next_block;
-            n[19] = w.number;
+            n[WINDOW_ROW_BLOCK] = w.next_row.address;
+            n[WINDOW_BLOCK] = w.next_block.address;
+            n[WINDOW_NUMBER] = w.number;
+            n[WINDOW_ROW_BLOCK_FROM] = w.next_row.from;
+            n[WINDOW_BLOCK_FROM] = w.next_block.from;
         }
     }
 }
@@ -209,18 +255,23 @@ pub fn state_numbers(state: &State) -> [u32; STATE] {
 }
 
 #[inline]
-fn part_numbers(part: Part) -> [u32; 5] {
+fn part_numbers(part: Part) -> [u32; PART] {
     match part {
-        Part::Keep => [0; 5],
-        Part::Set(word) => [0, 0, 0, 1, word.into()],
-        Part::Refuse(refusal) => [refusal.number.into(), refusal.row, refusal.address, 0, 0],
+        Part::Keep => [0; PART],
+        Part::Set(word) => [0, 0, 0, 0, 1, word.into()],
+        Part::Refuse(Refusal {
+            number,
+            row,
+            address,
+            from,
+        }) => [number.into(), row, address, from, 0, 0],
     }
 }
 
 #[inline]
 fn write_effect(effect: &Effect, to: &mut [u32; EFFECT]) {
-    to[..5].copy_from_slice(&part_numbers(effect.clear));
-    to[5..].copy_from_slice(&part_numbers(effect.set));
+    to[..PART].copy_from_slice(&part_numbers(effect.clear));
+    to[PART..].copy_from_slice(&part_numbers(effect.set));
 }
 
 /// A refusal in an answer, and its status.
@@ -228,6 +279,7 @@ fn write_effect(effect: &Effect, to: &mut [u32; EFFECT]) {
 fn refuse(refusal: Refusal, answer: &mut [u32]) -> u8 {
     answer[0] = refusal.row;
     answer[1] = refusal.address;
+    answer[2] = refusal.from;
     refusal.number
 }
 
@@ -243,7 +295,7 @@ fn field_numbers(field: &Field) -> [u32; 6] {
 }
 
 /// Places of a sheet's answer: the two fields' parts, and the lines for rows.
-pub const SHEET_EVEN: usize = 2;
+pub const SHEET_EVEN: usize = PREFIX;
 pub const SHEET_ODD: usize = SHEET_EVEN + 6;
 pub const SHEET_LINES: usize = SHEET_ODD + 6;
 
@@ -262,10 +314,15 @@ fn sheet_numbers(sheet: &Sheet) -> [u32; SHEET_ANSWER] {
     numbers
 }
 
+/// Places of a row's answer.
+pub const ROW_LINES: usize = PREFIX;
+pub const ROW_WORDS: usize = PREFIX + 4;
+
 #[inline]
 fn row_numbers(row: &Row) -> [u32; ROW_ANSWER] {
     [
         row.row,
+        0,
         0,
         row.lines,
         row.attributes,
@@ -314,7 +371,7 @@ pub fn start(
     match rules::start(&settings, memory, latch) {
         Ok(start) => {
             write_state(&start.state, state);
-            *answer = [0, 0, start.words];
+            *answer = [0, 0, 0, start.words];
             0
         }
         Err(refusal) => refuse(refusal, answer),
@@ -400,7 +457,7 @@ pub fn apply(effect: &[u32], latch: u16, answer: &mut [u32]) -> u8 {
     };
     match effect.apply(latch) {
         Ok(latch) => {
-            *answer = [0, 0, latch.into()];
+            *answer = [0, 0, 0, latch.into()];
             0
         }
         Err(refusal) => refuse(refusal, answer),
@@ -421,7 +478,7 @@ pub fn latch(latch: u16, state: &[u32], answer: &mut [u32]) -> u8 {
         0 => state.latch,
         _ => latch,
     };
-    *answer = [0, 0, handed_on.into()];
+    *answer = [0, 0, 0, handed_on.into()];
     0
 }
 
@@ -458,7 +515,7 @@ pub fn shift(
             } = shifted.scroll;
             *scroll = [shift as u32, phase, direction];
             let [first, second] = shifted.top;
-            *answer = [0, 0, first.into(), second.into()];
+            *answer = [0, 0, 0, first.into(), second.into()];
             0
         }
         Err(refusal) => refuse(refusal, answer),

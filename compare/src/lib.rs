@@ -14,6 +14,8 @@ pub mod vectors;
 #[cfg(test)]
 mod bus_tests;
 #[cfg(test)]
+mod host_tests;
+#[cfg(test)]
 mod mail_tests;
 #[cfg(test)]
 mod plain;

@@ -1,7 +1,7 @@
 //! The row rules once more in the plainest form: word by word, cell by cell, no shortcuts.
 //! The tests hold the fast form in `rules` against it.
 
-use crate::rules::{Effect, Fields, Part, Refusal, Row, Settings, State, Window, CELLS};
+use crate::rules::{Effect, Fields, Part, Pointer, Refusal, Row, Settings, State, Window, CELLS};
 use crate::scroll::{Scroll, Shifted};
 
 pub struct Drawn {
@@ -29,12 +29,39 @@ struct Tape<'a> {
     fill_flag: bool,
 }
 
+/// A word's address, and where the pointer begins that it was come to by.
+#[derive(Clone, Copy)]
+struct At {
+    address: u32,
+    from: u32,
+}
+
+impl At {
+    /// The pointer of a state, if it is not null.
+    fn of(pointer: Pointer) -> Option<At> {
+        let Pointer { address, from } = pointer;
+        (address != 0).then_some(At { address, from })
+    }
+
+    /// A pointer for a state.
+    fn pointer(at: Option<At>) -> Pointer {
+        let (address, from) = at.map_or((0, 0), |at| (at.address, at.from));
+        Pointer { address, from }
+    }
+}
+
 #[derive(Clone)]
 struct Segment {
-    code: Option<u32>,
-    list: Option<u32>,
+    code: Option<At>,
+    list: Option<At>,
     long: usize,
     visible: usize,
+}
+
+/// A main block: its first row block, and the words from M2 on.
+struct Main {
+    first: Option<At>,
+    words: Vec<u16>,
 }
 
 impl Segment {
@@ -51,52 +78,73 @@ fn refuse<T>(number: u8, row: u32, address: u32) -> Result<T, Refusal> {
         number,
         row,
         address,
+        from: 0,
     })
 }
 
 impl Tape<'_> {
     /// Reads the word at an address and moves the address on.
-    fn read(&mut self, address: &mut u32) -> Result<u16, Refusal> {
-        match self.memory.get((*address / 2) as usize) {
-            None => refuse(7, self.row, *address),
+    fn read(&mut self, at: &mut At) -> Result<u16, Refusal> {
+        match self.memory.get((at.address / 2) as usize) {
+            None => Err(Refusal {
+                number: 7,
+                row: self.row,
+                address: at.address,
+                from: at.from,
+            }),
             Some(&word) => {
                 self.count += 1;
-                let before = *address;
-                *address = match (self.settings.linear, *address) {
+                let before = at.address;
+                at.address = match (self.settings.linear, at.address) {
                     (true, 0xFF_FFFE) => 0,
                     (true, a) => a + 2,
                     (false, a) if a % 0x1_0000 == 0xFFFE => a - 0xFFFE,
                     (false, a) => a + 2,
                 };
-                self.wraps += u32::from(*address != before + 2);
+                self.wraps += u32::from(at.address != before + 2);
                 Ok(word)
             }
         }
     }
 
-    fn words(&mut self, address: &mut u32, count: usize) -> Result<Vec<u16>, Refusal> {
-        (0..count).map(|_| self.read(address)).collect()
+    fn words(&mut self, at: &mut At, count: usize) -> Result<Vec<u16>, Refusal> {
+        (0..count).map(|_| self.read(at)).collect()
     }
 
-    fn pointer(&self, words: &[u16]) -> Option<u32> {
+    /// Reads the two words of a pointer.
+    fn read_pointer(&mut self, at: &mut At) -> Result<Option<At>, Refusal> {
+        let from = at.address;
+        let words = self.words(at, 2)?;
+        let address = self.decode(&words);
+        Ok((address != 0).then_some(At { address, from }))
+    }
+
+    /// A pointer that a register holds.
+    fn register(&self, words: &[u16; 2]) -> Option<At> {
+        let address = self.decode(words);
+        (address != 0).then_some(At { address, from: 0 })
+    }
+
+    fn decode(&self, words: &[u16]) -> u32 {
         let high = if self.settings.linear {
             words[0] % 256
         } else {
             words[0] / 256 % 128
         };
-        let address = u32::from(high) * 0x1_0000 + u32::from(words[1] / 2 * 2);
-        (address != 0).then_some(address)
+        u32::from(high) * 0x1_0000 + u32::from(words[1] / 2 * 2)
     }
 
-    fn window(&mut self, mut address: u32, before: Option<Window>) -> Result<Window, Refusal> {
-        let words = self.words(&mut address, 6)?;
+    fn window(&mut self, mut at: At, before: Option<Window>) -> Result<Window, Refusal> {
+        let next_block = self.read_pointer(&mut at)?;
+        let next_row = self.read_pointer(&mut at)?;
+        let words = self.words(&mut at, 2)?;
         let window = Window {
-            first_row: u32::from(words[4] / 256),
-            last_row: u32::from(words[4] % 256),
-            first_column: u32::from(words[5] / 256),
-            last_column: u32::from(words[5] % 256),
-            next_row: self.pointer(&words[2..]).unwrap_or(0),
-            next_block: self.pointer(&words).unwrap_or(0),
+            first_row: u32::from(words[0] / 256),
+            last_row: u32::from(words[0] % 256),
+            first_column: u32::from(words[1] / 256),
+            last_column: u32::from(words[1] % 256),
+            next_row: At::pointer(next_row),
+            next_block: At::pointer(next_block),
             number: match before {
                 None => 0,
                 Some(window) => window.number + 1,
@@ -112,15 +160,17 @@ impl Tape<'_> {
         Ok(window)
     }
 
-    fn segments(&mut self, address: &mut u32, count: u16) -> Result<Vec<Segment>, Refusal> {
+    fn segments(&mut self, at: &mut At, count: u16) -> Result<Vec<Segment>, Refusal> {
         let mut all = Vec::new();
         for _ in 0..count {
-            let words = self.words(address, 5)?;
+            let code = self.read_pointer(at)?;
+            let list = self.read_pointer(at)?;
+            let size = self.read(at)?;
             all.push(Segment {
-                code: self.pointer(&words),
-                list: self.pointer(&words[2..]),
-                long: usize::from(words[4] / 256),
-                visible: usize::from(words[4] % 256),
+                code,
+                list,
+                long: usize::from(size / 256),
+                visible: usize::from(size % 256),
             });
         }
         Ok(all)
@@ -152,16 +202,16 @@ impl Tape<'_> {
     }
 
     /// A fill run over these columns with the list in use.
-    fn run(&mut self, columns: &[usize], list: &mut Option<u32>) -> Result<(), Refusal> {
+    fn run(&mut self, columns: &[usize], list: &mut Option<At>) -> Result<(), Refusal> {
         if columns.is_empty() {
             return Ok(());
         }
         if self.fill_flag {
-            if let Some(address) = list {
-                let at = *address;
-                let word = self.read(address)?;
+            if let Some(at) = list {
+                let place = at.address;
+                let word = self.read(at)?;
                 if word < 0x8000 {
-                    return refuse(13, self.row, at);
+                    return refuse(13, self.row, place);
                 }
                 self.take_latch(word);
             }
@@ -178,15 +228,15 @@ impl Tape<'_> {
         segment: &Segment,
         from: usize,
         source: u32,
-    ) -> Result<Option<u32>, Refusal> {
+    ) -> Result<Option<At>, Refusal> {
         let end = from + segment.width(self.settings);
         let mut list = segment.list;
         let mut column = from;
-        if let Some(mut address) = segment.code {
+        if let Some(mut at) = segment.code {
             let mut held = 0;
             for n in 0..segment.long {
                 let code = if n % 2 == 0 {
-                    held = self.read(&mut address)?;
+                    held = self.read(&mut at)?;
                     (held / 256) as u8
                 } else {
                     (held % 256) as u8
@@ -195,8 +245,8 @@ impl Tape<'_> {
                 let value = (self.settings.flag % 256) as u8;
                 let mut word = self.latch;
                 if code & mask == value & mask {
-                    if let Some(address) = &mut list {
-                        word = self.read(address)?;
+                    if let Some(at) = &mut list {
+                        word = self.read(at)?;
                         if word >> 15 & 1 == 1 {
                             self.take_latch(word);
                         }
@@ -232,28 +282,28 @@ impl<'a> Tape<'a> {
     }
 
     /// A main block that can be started from.
-    fn main_block(&mut self, top: &[u16; 2]) -> Result<Vec<u16>, Refusal> {
-        let Some(mut address) = self.pointer(top) else {
+    fn main_block(&mut self, top: &[u16; 2]) -> Result<Main, Refusal> {
+        let Some(mut at) = self.register(top) else {
             return refuse(6, 0, 0);
         };
-        let main = self.words(&mut address, 7)?;
-        match main[4] / 0x1000 % 8 {
+        let main = Main {
+            first: self.read_pointer(&mut at)?,
+            words: self.words(&mut at, 5)?,
+        };
+        match main.m4() / 0x1000 % 8 {
             5 | 7 => refuse(14, 0, 0),
             _ => Ok(main),
         }
     }
 
     /// The scan lines of the first row of a main block's list.
-    fn first_lines(&mut self, main: &[u16]) -> Result<i32, Refusal> {
-        let mut lines = i32::from(main[6] % 32) + 1;
-        if let Some(mut at) = self.pointer(main) {
-            self.words(&mut at, 2)?;
+    fn first_lines(&mut self, main: &Main) -> Result<i32, Refusal> {
+        let mut lines = i32::from(main.m6() % 32) + 1;
+        if let Some(mut at) = main.first {
+            self.read_pointer(&mut at)?;
             let head = self.read(&mut at)?;
             let redefinition = match head / 0x8000 {
-                1 => {
-                    let words = self.words(&mut at, 2)?;
-                    self.pointer(&words)
-                }
+                1 => self.read_pointer(&mut at)?,
                 _ => None,
             };
             self.segments(&mut at, head % 16)?;
@@ -263,6 +313,48 @@ impl<'a> Tape<'a> {
         }
         Ok(lines)
     }
+}
+
+impl Main {
+    fn m4(&self) -> u16 {
+        self.words[2]
+    }
+
+    fn m6(&self) -> u16 {
+        self.words[4]
+    }
+}
+
+/// The first state of a frame, and the words read.
+pub fn start(settings: &Settings, memory: &[u16], latch: u16) -> Result<(State, u32), Refusal> {
+    if !good(settings) {
+        return refuse(2, 0, 0);
+    }
+    let mut tape = Tape::new(settings, memory, 0);
+    let main = tape.main_block(&settings.top)?;
+    let window = match tape.register(&settings.tow) {
+        None => None,
+        Some(at) => Some(tape.window(at, None)?),
+    };
+    let lines = settings.val - settings.vsd;
+    let fields = Fields {
+        row: 0,
+        lines_left: match settings.interlace {
+            crate::rules::Interlace::RepeatField => u32::from(lines) / 2,
+            _ => u32::from(lines),
+        },
+        cursor_x: (main.words[0] / 256) as u8,
+        cursor_y: (main.words[0] % 256) as u8,
+        fill_code: (main.words[1] % 256) as u8,
+        fill_flag: main.words[1] / 256 % 2 == 1,
+        scan_lines: u32::from(main.m6() % 32) + 1,
+        attributes: 0,
+        curs: 0,
+        cure: 31,
+        next_row: At::pointer(main.first),
+        window,
+    };
+    Ok((State { latch, fields }, tape.count))
 }
 
 /// 000's table of rates: scan lines, and the frames that they take.
@@ -310,8 +402,8 @@ pub fn shift(
         top: settings.top,
     };
     let scroll = &mut given.scroll;
-    scroll.direction = u32::from(hard[4] / 0x2000 % 2);
-    let enabled = hard[4] / 0x4000 % 2 == 1;
+    scroll.direction = u32::from(hard.m4() / 0x2000 % 2);
+    let enabled = hard.m4() / 0x4000 % 2 == 1;
     if !enabled || scroll.direction != last.direction {
         (scroll.shift, scroll.phase) = (0, 0);
     }
@@ -319,13 +411,13 @@ pub fn shift(
         return Ok(given);
     }
     let sign = if scroll.direction == 1 { 1 } else { -1 };
-    let list = if sign == 1 {
-        hard.clone()
+    let lines = if sign == 1 {
+        tape.first_lines(&hard)?
     } else {
-        tape.main_block(&soft)?
+        let soft = tape.main_block(&soft)?;
+        tape.first_lines(&soft)?
     };
-    let lines = tape.first_lines(&list)?;
-    let (step, frames) = RATES[usize::from(hard[4] / 0x100 % 16)];
+    let (step, frames) = RATES[usize::from(hard.m4() / 0x100 % 16)];
     scroll.phase += 1;
     if scroll.phase >= frames {
         scroll.shift += sign * step;
@@ -359,26 +451,23 @@ pub fn row(settings: &Settings, memory: &[u16], state: &State) -> Result<Drawn, 
     let mut next = *now;
     if let Some(window) = now.window {
         if now.row > window.last_row {
-            next.window = if window.next_block == 0 {
-                None
-            } else {
-                Some(tape.window(window.next_block, Some(window))?)
+            next.window = match At::of(window.next_block) {
+                None => None,
+                Some(at) => Some(tape.window(at, Some(window))?),
             };
         }
     }
 
     let mut back = Vec::new();
-    if now.next_row != 0 {
-        let mut at = now.next_row;
-        let link = tape.words(&mut at, 2)?;
+    if let Some(mut at) = At::of(now.next_row) {
+        let link = tape.read_pointer(&mut at)?;
         let head = tape.read(&mut at)?;
         let mut redefinition = None;
         if head >> 15 == 1 {
-            let words = tape.words(&mut at, 2)?;
-            redefinition = tape.pointer(&words);
+            redefinition = tape.read_pointer(&mut at)?;
         }
         back = tape.segments(&mut at, head % 16)?;
-        next.next_row = tape.pointer(&link).unwrap_or(0);
+        next.next_row = At::pointer(link);
         if let Some(mut at) = redefinition {
             let words = tape.words(&mut at, 3)?;
             next.attributes = u32::from(words[0] % 1024);
@@ -401,12 +490,11 @@ pub fn row(settings: &Settings, memory: &[u16], state: &State) -> Result<Drawn, 
         if (window.first_row..=window.last_row).contains(&now.row) {
             let first = window.first_column as usize;
             let last = window.last_column as usize;
-            if window.next_row != 0 {
-                let mut at = window.next_row;
-                let link = tape.words(&mut at, 2)?;
+            if let Some(mut at) = At::of(window.next_row) {
+                let link = tape.read_pointer(&mut at)?;
                 let head = tape.read(&mut at)?;
                 inner = tape.segments(&mut at, head % 16)?;
-                window.next_row = tape.pointer(&link).unwrap_or(0);
+                window.next_row = At::pointer(link);
             }
             tape.check_lengths(&inner)?;
             let inner_sum: usize = inner.iter().map(|s| s.width(settings)).sum();
@@ -558,13 +646,17 @@ fn good(s: &Settings) -> bool {
 
 fn in_range(f: &Fields) -> bool {
     let address = |a: u32| a.is_multiple_of(2) && a < 0x100_0000;
+    let pointer = |p: Pointer| match p.address {
+        0 => p.from == 0,
+        _ => address(p.address) && address(p.from),
+    };
     if u64::from(f.row) + u64::from(f.lines_left) > 4095 {
         return false;
     }
     if f.scan_lines < 1 || f.scan_lines > 32 || f.curs > 31 || f.cure > 31 || f.attributes > 1023 {
         return false;
     }
-    if !address(f.next_row) {
+    if !pointer(f.next_row) {
         return false;
     }
     match f.window {
@@ -574,8 +666,8 @@ fn in_range(f: &Fields) -> bool {
                 && w.last_row < 256
                 && w.first_column <= w.last_column
                 && w.last_column < 132
-                && address(w.next_row)
-                && address(w.next_block)
+                && pointer(w.next_row)
+                && pointer(w.next_block)
                 && w.number <= w.first_row
         }
     }

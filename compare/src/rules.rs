@@ -82,6 +82,14 @@ pub struct Sheet {
     pub invoking: u32,
 }
 
+/// A pointer: the address that it gives, 0 for none, and the address where it begins itself, 0 where it is
+/// null or a register held it.
+#[derive(Clone, Copy, Debug, PartialEq, Eq)]
+pub struct Pointer {
+    pub address: u32,
+    pub from: u32,
+}
+
 /// The window in hand.
 #[derive(Clone, Copy, Debug, PartialEq, Eq)]
 pub struct Window {
@@ -89,10 +97,10 @@ pub struct Window {
     pub last_row: u32,
     pub first_column: u32,
     pub last_column: u32,
-    /// The next window row block, 0 for none.
-    pub next_row: u32,
-    /// The next window block, 0 for none.
-    pub next_block: u32,
+    /// To the next window row block.
+    pub next_row: Pointer,
+    /// To the next window block.
+    pub next_block: Pointer,
     /// Along the chain, from 0.
     pub number: u32,
 }
@@ -110,8 +118,8 @@ pub struct Fields {
     pub attributes: u32,
     pub curs: u32,
     pub cure: u32,
-    /// The next row block, 0 for none.
-    pub next_row: u32,
+    /// To the next row block.
+    pub next_row: Pointer,
     pub window: Option<Window>,
 }
 
@@ -126,6 +134,8 @@ pub struct Refusal {
     pub number: u8,
     pub row: u32,
     pub address: u32,
+    /// Of a missing word: where the pointer in use begins.
+    pub from: u32,
 }
 
 #[derive(Clone, Copy, Debug, PartialEq, Eq)]
@@ -258,11 +268,7 @@ fn field(settings: &Settings, odd: bool) -> Field {
 /// The settings sheet, or refusal 2.
 pub fn sheet(settings: &Settings) -> Result<Sheet, Refusal> {
     if !settings.good() {
-        return Err(Refusal {
-            number: 2,
-            row: 0,
-            address: 0,
-        });
+        return Err(Stop::bare(2).at_row(0));
     }
     let [mask, _] = settings.flag.to_be_bytes();
     Ok(Sheet {
@@ -277,16 +283,30 @@ pub fn sheet(settings: &Settings) -> Result<Sheet, Refusal> {
     })
 }
 
-/// Why a walk stops: a refusal's number and address. The caller knows the row.
+/// Why a walk stops: a refusal without its row, which the caller knows.
 #[derive(Clone, Copy)]
 pub(crate) struct Stop {
     number: u8,
     address: u32,
+    from: u32,
 }
 
 impl Stop {
     pub(crate) const fn bare(number: u8) -> Stop {
-        Stop { number, address: 0 }
+        Stop {
+            number,
+            address: 0,
+            from: 0,
+        }
+    }
+
+    /// The word at an address is missing.
+    fn missing(linear: bool, address: u32, origin: Origin) -> Stop {
+        Stop {
+            number: 7,
+            address,
+            from: origin.address(linear),
+        }
     }
 
     pub(crate) fn at_row(self, row: u32) -> Refusal {
@@ -294,7 +314,59 @@ impl Stop {
             number: self.number,
             row,
             address: self.address,
+            from: self.from,
         }
+    }
+}
+
+/// Where the pointer in use begins: so many words on in the block at an address. The address is worked out
+/// where a word is missing, and only there.
+#[derive(Clone, Copy)]
+pub(crate) struct Origin {
+    block: u32,
+    words: u32,
+}
+
+impl Origin {
+    pub(crate) const REGISTER: Origin = Origin { block: 0, words: 0 };
+
+    /// A pointer so many words on in a block.
+    pub(crate) fn inside(block: u32, words: u32) -> Origin {
+        Origin { block, words }
+    }
+
+    fn address(self, linear: bool) -> u32 {
+        let plain = self.block + 2 * self.words;
+        if linear {
+            plain & 0xFF_FFFF
+        } else {
+            self.block & 0xFF_0000 | plain & 0xFFFF
+        }
+    }
+}
+
+impl Pointer {
+    /// The pointer of two words that stand so many words on in a block.
+    pub(crate) fn inside(
+        linear: bool,
+        [first, second]: [u16; 2],
+        block: u32,
+        words: u32,
+    ) -> Pointer {
+        match pointer(linear, first, second) {
+            0 => Pointer {
+                address: 0,
+                from: 0,
+            },
+            address => Pointer {
+                address,
+                from: Origin::inside(block, words).address(linear),
+            },
+        }
+    }
+
+    pub(crate) fn origin(&self) -> Origin {
+        Origin::inside(self.from, 0)
     }
 }
 
@@ -303,6 +375,7 @@ impl Stop {
 pub(crate) struct Reader<'m> {
     memory: &'m [u16],
     linear: bool,
+    origin: Origin,
     rest: &'m [u16],
     end: usize,
     /// Word number at which the stretch began.
@@ -313,10 +386,16 @@ pub(crate) struct Reader<'m> {
 
 impl<'m> Reader<'m> {
     #[inline]
-    pub(crate) fn open(memory: &'m [u16], linear: bool, address: u32) -> Reader<'m> {
+    pub(crate) fn open(
+        memory: &'m [u16],
+        linear: bool,
+        address: u32,
+        origin: Origin,
+    ) -> Reader<'m> {
         let mut reader = Reader {
             memory,
             linear,
+            origin,
             rest: &[],
             end: 0,
             begin: 0,
@@ -370,10 +449,7 @@ impl<'m> Reader<'m> {
         self.before += self.index() - self.begin;
         self.stretch(next);
         if self.rest.is_empty() {
-            return Err(Stop {
-                number: 7,
-                address: next as u32 * 2,
-            });
+            return Err(Stop::missing(self.linear, next as u32 * 2, self.origin));
         }
         Ok(())
     }
@@ -424,10 +500,11 @@ impl<'m> Reader<'m> {
 fn window_block(
     settings: &Settings,
     memory: &[u16],
-    address: u32,
+    block: Pointer,
     before: Option<&Window>,
 ) -> Result<Window, Stop> {
-    let words: [u16; 6] = Reader::open(memory, settings.linear, address).block()?;
+    let (linear, at) = (settings.linear, block.address);
+    let words: [u16; 6] = Reader::open(memory, linear, at, block.origin()).block()?;
     let [first_row, last_row] = words[4].to_be_bytes().map(u32::from);
     let [first_column, last_column] = words[5].to_be_bytes().map(u32::from);
     let late = before.is_none_or(|window| first_row > window.last_row);
@@ -440,23 +517,32 @@ fn window_block(
         last_row,
         first_column,
         last_column,
-        next_row: pointer(settings.linear, words[2], words[3]),
-        next_block: pointer(settings.linear, words[0], words[1]),
+        next_row: Pointer::inside(linear, [words[2], words[3]], at, 2),
+        next_block: Pointer::inside(linear, [words[0], words[1]], at, 0),
         number: before.map_or(0, |window| window.number + 1),
     })
 }
 
+/// A main block's words, and its first row block.
+pub(crate) struct Main {
+    pub(crate) words: [u16; 7],
+    pub(crate) first: Pointer,
+}
+
 /// The main block at the top of a page, read and judged: 6, 7, 14.
-pub(crate) fn main_block(linear: bool, memory: &[u16], top: [u16; 2]) -> Result<[u16; 7], Stop> {
+pub(crate) fn main_block(linear: bool, memory: &[u16], top: [u16; 2]) -> Result<Main, Stop> {
     let top = pointer(linear, top[0], top[1]);
     if top == 0 {
         return Err(Stop::bare(6));
     }
-    let main: [u16; 7] = Reader::open(memory, linear, top).block()?;
-    if main[4] & SCROLL != 0 && main[4] & SCROLL_WINDOW != 0 {
+    let words: [u16; 7] = Reader::open(memory, linear, top, Origin::REGISTER).block()?;
+    if words[4] & SCROLL != 0 && words[4] & SCROLL_WINDOW != 0 {
         return Err(Stop::bare(14));
     }
-    Ok(main)
+    Ok(Main {
+        words,
+        first: Pointer::inside(linear, [words[0], words[1]], top, 0),
+    })
 }
 
 /// Begins a frame from the latch that the one before handed on; the first after reset from 0.
@@ -469,9 +555,12 @@ fn begin(settings: &Settings, memory: &[u16], latch: u16) -> Result<Start, Stop>
         return Err(Stop::bare(2));
     }
     let linear = settings.linear;
-    let main = main_block(linear, memory, settings.top)?;
-    let tow = pointer(linear, settings.tow[0], settings.tow[1]);
-    let window = match tow {
+    let Main { words: main, first } = main_block(linear, memory, settings.top)?;
+    let tow = Pointer {
+        address: pointer(linear, settings.tow[0], settings.tow[1]),
+        from: 0,
+    };
+    let window = match tow.address {
         0 => None,
         _ => Some(window_block(settings, memory, tow, None)?),
     };
@@ -487,7 +576,7 @@ fn begin(settings: &Settings, memory: &[u16], latch: u16) -> Result<Start, Stop>
         attributes: 0,
         curs: 0,
         cure: 31,
-        next_row: pointer(linear, main[0], main[1]),
+        next_row: first,
         window,
     };
     Ok(Start {
@@ -500,6 +589,13 @@ fn address_in_range(address: u32) -> bool {
     address & !0xFF_FFFE == 0
 }
 
+impl Pointer {
+    fn in_range(&self) -> bool {
+        let from = address_in_range(self.from) && (self.from == 0 || self.address != 0);
+        address_in_range(self.address) && from
+    }
+}
+
 impl Fields {
     fn in_range(&self) -> bool {
         let window = self.window.is_none_or(|w| {
@@ -507,8 +603,8 @@ impl Fields {
                 && w.last_row <= 255
                 && w.first_column <= w.last_column
                 && (w.last_column as usize) < CELLS
-                && address_in_range(w.next_row)
-                && address_in_range(w.next_block)
+                && w.next_row.in_range()
+                && w.next_block.in_range()
                 && w.number <= w.first_row
         });
         u64::from(self.row) + u64::from(self.lines_left) <= 4095
@@ -516,7 +612,7 @@ impl Fields {
             && self.curs <= 31
             && self.cure <= 31
             && self.attributes <= 1023
-            && address_in_range(self.next_row)
+            && self.next_row.in_range()
             && window
     }
 }
@@ -529,12 +625,23 @@ struct Segment {
     length: u8,
     visible: u8,
     width: u8,
+    /// Its code pointer's place; the list's is two words on.
+    origin: Origin,
+}
+
+impl Segment {
+    #[inline]
+    fn list_origin(&self) -> Origin {
+        Origin::inside(self.origin.block, self.origin.words + 2)
+    }
 }
 
 /// The segments of a row block: their words as they stand in memory.
 #[derive(Clone, Copy)]
 struct Segments<'a> {
     words: &'a [[u16; 5]],
+    /// Where the first one begins.
+    origin: Origin,
     linear: bool,
     display_hidden: bool,
 }
@@ -546,20 +653,23 @@ impl<'a> Segments<'a> {
     fn none(settings: &Settings) -> Segments<'a> {
         Segments {
             words: &[],
+            origin: Origin::REGISTER,
             linear: settings.linear,
             display_hidden: settings.display_hidden,
         }
     }
 
-    /// Reads so many segments, 15 at most.
+    /// Reads so many segments, 15 at most, from a place in a block on.
     #[inline]
     fn read<'m: 'a>(
         &mut self,
         reader: &mut Reader<'m>,
         count: u16,
+        origin: Origin,
         spare: &'a mut Spare,
     ) -> Result<(), Stop> {
         let count = usize::from(count);
+        self.origin = origin;
         self.words = match reader.rest.split_at_checked(count * 5) {
             Some((words, rest)) => {
                 reader.rest = rest;
@@ -580,24 +690,29 @@ impl<'a> Segments<'a> {
     fn iter(&self) -> impl Iterator<Item = Segment> + use<'a> {
         let Segments {
             words,
+            origin: Origin { block, words: from },
             linear,
             display_hidden,
         } = *self;
-        words.iter().map(move |words| {
-            let [length, visible] = words[4].to_be_bytes();
-            let code = pointer(linear, words[0], words[1]);
-            Segment {
-                code,
-                list: pointer(linear, words[2], words[3]),
-                length,
-                visible,
-                width: if code != 0 && display_hidden {
-                    length
-                } else {
-                    visible
-                },
-            }
-        })
+        words
+            .iter()
+            .zip((from..).step_by(5))
+            .map(move |(words, place)| {
+                let [length, visible] = words[4].to_be_bytes();
+                let code = pointer(linear, words[0], words[1]);
+                Segment {
+                    code,
+                    list: pointer(linear, words[2], words[3]),
+                    length,
+                    visible,
+                    width: if code != 0 && display_hidden {
+                        length
+                    } else {
+                        visible
+                    },
+                    origin: Origin::inside(block, place),
+                }
+            })
     }
 
     /// The sum of the widths, or refusal 9.
@@ -681,30 +796,40 @@ fn prepare<'a>(
     // A window that has passed gives way to the next one, and no further.
     if let Some(window) = fields.window {
         if fields.row > window.last_row {
-            next.window = match window.next_block {
+            next.window = match window.next_block.address {
                 0 => None,
-                block => {
+                _ => {
                     plan.words += 6;
-                    Some(window_block(settings, memory, block, Some(&window))?)
+                    Some(window_block(
+                        settings,
+                        memory,
+                        window.next_block,
+                        Some(&window),
+                    )?)
                 }
             };
         }
     }
 
-    if fields.next_row != 0 {
-        let mut reader = Reader::open(memory, linear, fields.next_row);
+    if fields.next_row.address != 0 {
+        let block = fields.next_row.address;
+        let mut reader = Reader::open(memory, linear, block, fields.next_row.origin());
         let [link0, link1, head] = reader.block()?;
-        let redefinition = if head & 0x8000 != 0 {
+        let (redefinition, segments) = if head & 0x8000 != 0 {
             let [first, second] = reader.block()?;
-            pointer(linear, first, second)
+            (pointer(linear, first, second), 5)
         } else {
-            0
+            (0, 3)
         };
-        plan.back.read(&mut reader, head & 15, spare_back)?;
-        next.next_row = pointer(linear, link0, link1);
+        let segments = Origin::inside(block, segments);
+        plan.back
+            .read(&mut reader, head & 15, segments, spare_back)?;
+        next.next_row = Pointer::inside(linear, [link0, link1], block, 0);
         plan.words += reader.count();
         if redefinition != 0 {
-            let [attributes, lines, cursor] = Reader::open(memory, linear, redefinition).block()?;
+            let origin = Origin::inside(block, 3);
+            let [attributes, lines, cursor] =
+                Reader::open(memory, linear, redefinition, origin).block()?;
             next.attributes = u32::from(attributes & 0x3FF);
             next.scan_lines = u32::from(lines & 31) + 1;
             next.curs = u32::from(cursor >> 8 & 31);
@@ -720,11 +845,14 @@ fn prepare<'a>(
         if window.first_row <= fields.row && fields.row <= window.last_row {
             let first = window.first_column as usize;
             let end = window.last_column as usize + 1;
-            if window.next_row != 0 {
-                let mut reader = Reader::open(memory, linear, window.next_row);
+            if window.next_row.address != 0 {
+                let block = window.next_row.address;
+                let mut reader = Reader::open(memory, linear, block, window.next_row.origin());
                 let [link0, link1, head] = reader.block()?;
-                plan.over.read(&mut reader, head & 15, spare_over)?;
-                window.next_row = pointer(linear, link0, link1);
+                let segments = Origin::inside(block, 3);
+                plan.over
+                    .read(&mut reader, head & 15, segments, spare_over)?;
+                window.next_row = Pointer::inside(linear, [link0, link1], block, 0);
                 plan.words += reader.count();
                 if plan.over.sum()? > end - first {
                     return Err(Stop::bare(11));
@@ -744,31 +872,43 @@ fn prepare<'a>(
     Ok(())
 }
 
-/// The attribute list in use: the address of its next word, or no list.
+/// The attribute list in use: the address of its next word, or no list, and where its pointer begins.
 /// An address of 0 that was stepped to is a place in the list like any other.
 #[derive(Clone, Copy)]
-struct List(Option<u32>);
+struct List {
+    next: Option<u32>,
+    origin: Origin,
+}
 
 impl List {
+    const NONE: List = List {
+        next: None,
+        origin: Origin::REGISTER,
+    };
+
+    #[inline]
     fn of(segment: &Segment) -> List {
-        List((segment.list != 0).then_some(segment.list))
+        List {
+            next: (segment.list != 0).then_some(segment.list),
+            origin: segment.list_origin(),
+        }
     }
 
     /// Takes the word for a fill run, which must have bit 15.
     fn fill_word(&mut self, memory: &[u16], linear: bool) -> Result<Option<u16>, Stop> {
-        let Some(address) = self.0 else {
+        let Some(address) = self.next else {
             return Ok(None);
         };
         let Some(&word) = memory.get(address as usize / 2) else {
-            return Err(Stop { number: 7, address });
+            return Err(Stop::missing(linear, address, self.origin));
         };
         if word & LATCHED == 0 {
             return Err(Stop {
-                number: 13,
                 address,
+                ..Stop::bare(13)
             });
         }
-        self.0 = Some(step(linear, address));
+        self.next = Some(step(linear, address));
         Ok(Some(word))
     }
 }
@@ -785,7 +925,7 @@ trait Pen {
 /// The segments and fill runs of a row, left to right.
 #[inline]
 fn walk<P: Pen>(plan: &Plan, pen: &mut P) -> Result<(), Stop> {
-    let mut list = List(None);
+    let mut list = List::NONE;
     let mut at = 0;
     let mut segments = plan.back.iter().peekable();
     if let Some((first, end)) = plan.columns {
@@ -797,7 +937,7 @@ fn walk<P: Pen>(plan: &Plan, pen: &mut P) -> Result<(), Stop> {
         pen.fill(at.min(first), first, &mut list)?;
 
         let mut inside = first;
-        let mut inner = List(None);
+        let mut inner = List::NONE;
         for segment in plan.over.iter() {
             inner = pen.segment(&segment, inside, plan.source)?;
             inside += usize::from(segment.width);
@@ -842,7 +982,7 @@ impl Draw<'_> {
     /// Gives how many cells they took.
     #[inline]
     fn plain_codes(&mut self, segment: &Segment, from: usize, source: u32) -> Result<usize, Stop> {
-        let mut codes = Reader::open(self.memory, self.linear, segment.code);
+        let mut codes = Reader::open(self.memory, self.linear, segment.code, segment.origin);
         let room = if self.latch & self.hide != 0 {
             0
         } else {
@@ -881,8 +1021,8 @@ impl Draw<'_> {
         source: u32,
         list: &mut List,
     ) -> Result<usize, Stop> {
-        let mut codes = Reader::open(self.memory, self.linear, segment.code);
-        let mut attributes = Reader::open(self.memory, self.linear, segment.list);
+        let mut codes = Reader::open(self.memory, self.linear, segment.code, segment.origin);
+        let mut attributes = Reader::open(self.memory, self.linear, segment.list, list.origin);
         let mut cells = self.cells[from..from + usize::from(segment.width)].iter_mut();
         let [mask, value] = self.flag.to_be_bytes().map(|byte| u16::from(byte) * 0x101);
         let hide = self.hide;
@@ -941,7 +1081,7 @@ impl Draw<'_> {
         attributes.rest = ahead.as_slice();
         self.latch = latch;
         self.words += codes.count() + attributes.count();
-        *list = List(Some(attributes.address()));
+        list.next = Some(attributes.address());
         Ok(usize::from(segment.width) - unused)
     }
 }
@@ -1061,7 +1201,7 @@ impl Trace<'_> {
     #[inline]
     fn plain_codes(&mut self, segment: &Segment) -> Result<Shown, Stop> {
         let length = usize::from(segment.length);
-        let mut codes = Reader::open(self.memory, self.linear, segment.code);
+        let mut codes = Reader::open(self.memory, self.linear, segment.code, segment.origin);
         let mut left = length.div_ceil(2);
         while left > 0 {
             left -= codes.together(left)?.len();
@@ -1076,8 +1216,8 @@ impl Trace<'_> {
     /// The codes of a segment with a list.
     #[inline]
     fn listed_codes(&mut self, segment: &Segment, list: &mut List) -> Result<Shown, Stop> {
-        let mut codes = Reader::open(self.memory, self.linear, segment.code);
-        let mut attributes = Reader::open(self.memory, self.linear, segment.list);
+        let mut codes = Reader::open(self.memory, self.linear, segment.code, segment.origin);
+        let mut attributes = Reader::open(self.memory, self.linear, segment.list, list.origin);
         let mut shown = Shown::default();
         let mut left = usize::from(segment.length);
         while left > 0 {
@@ -1090,7 +1230,7 @@ impl Trace<'_> {
                 self.uncounted(words, count, &mut attributes)?;
             }
         }
-        *list = List(Some(attributes.address()));
+        list.next = Some(attributes.address());
         Ok(shown)
     }
 
@@ -1237,7 +1377,7 @@ impl Pen for Trace<'_> {
             self.listed_codes(segment, &mut list)?
         };
         // Runs without a list, and all without the fill flag, change nothing.
-        if self.fill_flag && list.0.is_some() {
+        if self.fill_flag && list.next.is_some() {
             if segment.code == 0 {
                 self.fill(0, width, &mut list)?;
             } else if self.counting {

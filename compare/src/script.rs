@@ -122,11 +122,13 @@ pub fn run(input: &[u8]) -> Vec<u8> {
                     number,
                     row,
                     address,
+                    from,
                 } = refusal;
-                line(
-                    &mut out,
-                    format_args!("refused {number} row {row} at {address:06X}"),
-                );
+                let told = format!("refused {number} row {row} at {address:06X}");
+                match number {
+                    7 => line(&mut out, format_args!("{told} from {from:06X}")),
+                    _ => line(&mut out, format_args!("{told}")),
+                }
             }
         }
     }

@@ -1,7 +1,8 @@
 //! Soft scroll of the background: the shift call before a frame, and the row beside the cut.
 
 use crate::rules::{
-    self, main_block, pointer, Reader, Refusal, Row, Settings, State, Stop, CELLS, SCROLL,
+    self, main_block, pointer, Main, Origin, Reader, Refusal, Row, Settings, State, Stop, CELLS,
+    SCROLL,
 };
 
 /// M4: the scroll goes up.
@@ -60,14 +61,15 @@ fn shifted(
     }
     let linear = settings.linear;
     let main = main_block(linear, memory, settings.top)?;
-    let up = main[4] & UP != 0;
+    let m4 = main.words[4];
+    let up = m4 & UP != 0;
     let direction = u32::from(up);
     let still = Scroll {
         shift: 0,
         phase: 0,
         direction,
     };
-    if main[4] & SCROLL == 0 {
+    if m4 & SCROLL == 0 {
         return Ok(Shifted {
             scroll: still,
             top: settings.top,
@@ -84,7 +86,7 @@ fn shifted(
     } else {
         &still
     };
-    let (gone, phase) = advance(main[4], from.shift.unsigned_abs(), from.phase);
+    let (gone, phase) = advance(m4, from.shift.unsigned_abs(), from.phase);
     if gone >= lines {
         return Ok(Shifted {
             scroll: still,
@@ -120,11 +122,11 @@ fn advance(m4: u16, gone: u32, phase: u32) -> (u32, u32) {
 
 /// The scan lines of the first row of a main block's list. Its block is read whole, then its
 /// redefinition; neither is judged.
-fn first_lines(linear: bool, memory: &[u16], main: &[u16; 7]) -> Result<u32, Stop> {
-    let mut lines = main[6];
-    let first = pointer(linear, main[0], main[1]);
-    if first != 0 {
-        let mut reader = Reader::open(memory, linear, first);
+fn first_lines(linear: bool, memory: &[u16], main: &Main) -> Result<u32, Stop> {
+    let mut lines = main.words[6];
+    let block = main.first.address;
+    if block != 0 {
+        let mut reader = Reader::open(memory, linear, block, main.first.origin());
         let [_, _, head] = reader.block()?;
         let mut redefinition = 0;
         if head & 0x8000 != 0 {
@@ -135,7 +137,8 @@ fn first_lines(linear: bool, memory: &[u16], main: &[u16; 7]) -> Result<u32, Sto
             let _: [u16; 5] = reader.block()?;
         }
         if redefinition != 0 {
-            [_, lines, _] = Reader::open(memory, linear, redefinition).block()?;
+            let origin = Origin::inside(block, 3);
+            [_, lines, _] = Reader::open(memory, linear, redefinition, origin).block()?;
         }
     }
     Ok(u32::from(lines & 31) + 1)

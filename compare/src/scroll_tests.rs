@@ -22,10 +22,15 @@ fn scroll(shift: i32, phase: u32, direction: u32) -> Scroll {
 }
 
 fn refused(number: u8, address: u32) -> Result<Shifted, Refusal> {
+    missing(number, address, 0)
+}
+
+fn missing(number: u8, address: u32, from: u32) -> Result<Shifted, Refusal> {
     Err(Refusal {
         number,
         row: 0,
         address,
+        from,
     })
 }
 
@@ -183,7 +188,7 @@ fn order_of_the_checks() {
     assert_eq!(shut([0, 0x7FF6], &good, &board), refused(7, 0x8000));
     assert_eq!(made(&board, good), refused(14, 0));
     board.write(0x18, &[UP]);
-    assert_eq!(made(&board, good), refused(7, 0x9000));
+    assert_eq!(made(&board, good), missing(7, 0x9000, 0x10));
     // With enable off nothing but the hard main block is read.
     board.write(0x18, &[0x3F00]);
     assert_eq!(made(&board, good), at_hard(good));
@@ -192,7 +197,10 @@ fn order_of_the_checks() {
     board
         .write(0x12, &[0x7FEE])
         .write(0x7FEE, &[0, 0, 0x8001, 0, 0x9000]);
-    assert_eq!(made(&board, good), refused(7, 0x8000));
+    assert_eq!(made(&board, good), missing(7, 0x8000, 0x10));
+    // Without a segment the block is there, and its redefinition is not.
+    board.write(0x7FF2, &[0x8000]);
+    assert_eq!(made(&board, good), missing(7, 0x9000, 0x7FF4));
     board.row(0x100, 0, &[(0x200, 0, 1, 2), (0, 0, 0, 200)]);
     board.write(0x12, &[0x100]);
     assert_eq!(made(&board, good), at_hard(scroll(1, 0, 1)));
@@ -214,7 +222,7 @@ fn soft_tops() {
     assert_eq!(soft(DOWN, [0xFF00, 1]), refused(6, 0));
     assert_eq!(soft(DOWN, [1, 0]), refused(7, 0x1_0000));
     assert_eq!(soft(DOWN, [0, 0x50]), refused(14, 0));
-    assert_eq!(soft(DOWN, [0, 0x40]), refused(7, 0x9000));
+    assert_eq!(soft(DOWN, [0, 0x40]), missing(7, 0x9000, 0x40));
     // Up it is not looked at, and becomes the hard top with its ignored bits.
     for top in [[0xFF00, 1], [1, 0], [0, 0x50], [0, 0x40]] {
         assert_eq!(soft(UP, top), at_hard(scroll(1, 0, 1)));
@@ -288,7 +296,7 @@ fn beside_over_slices() {
         let mut answer = vec![9; answers];
         let status = host::beside(settings, &board.memory, &from, &mut cells, &mut answer);
         if status != 0 {
-            let written = if status == host::UNFIT { 0 } else { 2 };
+            let written = if status == host::UNFIT { 0 } else { 3 };
             assert!(cells.iter().all(|&cell| cell == 7));
             assert!(answer[written..].iter().all(|&number| number == 9));
         }
@@ -299,25 +307,25 @@ fn beside_over_slices() {
     let (status, answer) = beside(&bad, 0, null, &[], 5, ROW_ANSWER);
     assert_eq!((status, answer), (0, vec![0; ROW_ANSWER]));
     assert_eq!(beside(&bad[1..], 0, null, &[], 5, ROW_ANSWER).0, 255);
-    assert_eq!(beside(&good, 0, null, &state, CELLS, 6).0, 255);
+    assert_eq!(beside(&good, 0, null, &state, CELLS, ROW_ANSWER - 1).0, 255);
     // Up: 255, 1, 2, 3. Lines left do not matter; the soft top does not.
-    for left in [0, 5, 0xFFFF] {
+    for left in [0, 5, 0xFFFF, 0x1_0000, u32::MAX] {
         state[2] = left;
         assert_eq!(beside(&good, 1, null, &state, CELLS, ROW_ANSWER).0, 0);
     }
     let (status, answer) = beside(&good, i32::MAX, null, &state, CELLS, ROW_ANSWER);
-    assert_eq!((status, answer[2]), (0, 1));
+    assert_eq!((status, answer[host::ROW_LINES]), (0, 1));
     assert_eq!(beside(&good, 1, null, &state[1..], 5, ROW_ANSWER).0, 255);
     state[1] = 4095;
     let (status, answer) = beside(&bad, 1, null, &state, 131, ROW_ANSWER);
-    assert_eq!((status, &answer[..2]), (1, &[4095, 0][..]));
+    assert_eq!((status, &answer[..3]), (1, &[4095, 0, 0][..]));
     assert_eq!(beside(&bad, 1, null, &state, CELLS, ROW_ANSWER).0, 2);
     assert_eq!(beside(&good, 1, null, &state, CELLS, ROW_ANSWER).0, 3);
     // Down: any state, 1, 2, 6.
     for state in [&[][..], &[u32::MAX; 40], &state] {
         assert_eq!(beside(&good, -1, SOFT, state, CELLS, ROW_ANSWER).0, 0);
         let (status, answer) = beside(&bad, -1, null, state, 133, ROW_ANSWER);
-        assert_eq!((status, &answer[..2]), (1, &[0, 0][..]));
+        assert_eq!((status, &answer[..3]), (1, &[0, 0, 0][..]));
         assert_eq!(beside(&bad, i32::MIN, null, state, CELLS, ROW_ANSWER).0, 2);
         assert_eq!(beside(&good, i32::MIN, null, state, CELLS, ROW_ANSWER).0, 6);
     }

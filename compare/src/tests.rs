@@ -4,7 +4,7 @@ use crate::generate::{self, Case, Rng, Shape};
 use crate::plain;
 use crate::rules::{
     self, effect, invokes, pointer, row, sheet, start, step, Edition, Effect, Field, Fields,
-    Interlace, Part, Refusal, Row, Settings, Sheet, State, Window, CELLS,
+    Interlace, Part, Pointer, Refusal, Row, Settings, Sheet, Start, State, Window, CELLS,
 };
 use crate::script::{self, UNSET};
 use crate::vectors::{self, sheet_s};
@@ -195,7 +195,8 @@ fn p5_p6_rows_of_s() {
         Refusal {
             number: 4,
             row: 2,
-            address: 0
+            address: 0,
+            from: 0
         }
     );
 }
@@ -372,6 +373,7 @@ fn p8_timing_interlaced_video() {
         number: 2,
         row: 0,
         address: 0,
+        from: 0,
     };
     for bad in [
         Settings { vsw: 4, ..settings },
@@ -457,7 +459,8 @@ fn p11_widths() {
         Err(Refusal {
             number: 10,
             row: 0,
-            address: 0
+            address: 0,
+            from: 0
         })
     );
 }
@@ -482,7 +485,8 @@ fn p12_window_rows() {
         Some(Refusal {
             number: 8,
             row: 4,
-            address: 0
+            address: 0,
+            from: 0
         })
     );
 }
@@ -560,6 +564,7 @@ fn an_effect_has_two_parts() {
         number: 13,
         row: 0,
         address: 0x300,
+        from: 0,
     };
     let expected = Effect {
         clear: Part::Keep,
@@ -643,6 +648,7 @@ fn lists_wrap() {
         number: 7,
         row: 0,
         address: 0x1_0000,
+        from: 0x106,
     };
     assert_eq!(board.first_row(&wide(), 0), Err(missing));
     assert_eq!(board.first_effect(&wide()).set, Part::Refuse(missing));
@@ -671,6 +677,7 @@ fn joining_effects() {
         number: 13,
         row: 2,
         address: 6,
+        from: 0,
     };
     let keep = Effect::EMPTY;
     let a = Effect {
@@ -754,6 +761,205 @@ fn frames_in_turn() {
     assert_eq!((latch, rows.len()), (0x1234, 0));
 }
 
+/// The refusal of a frame of this board.
+fn refusal_of(settings: &Settings, draw: impl FnOnce(&mut Board)) -> Refusal {
+    let mut board = Board::new(0x0020);
+    draw(&mut board);
+    let (_, refusal) = board.frame(settings);
+    refusal.expect("a refusal")
+}
+
+fn missing(row: u32, address: u32, from: u32) -> Refusal {
+    Refusal {
+        number: 7,
+        row,
+        address,
+        from,
+    }
+}
+
+/// A missing word tells where the pointer in use begins.
+#[test]
+fn who_pointed_there() {
+    let at = |settings: &Settings, draw: fn(&mut Board)| refusal_of(settings, draw);
+    let (plain, far) = (wide(), 0x9000);
+    let windows = Settings {
+        tow: [0, 0x400],
+        ..wide()
+    };
+    // Registers: 0.
+    for top in [[0, 0x9000], [0, 0x7FF6]] {
+        let gone = at(&Settings { top, ..plain }, |_| {});
+        assert_eq!(gone, missing(0, gone.address, 0));
+    }
+    let tow = [0, 0x9000];
+    assert_eq!(at(&Settings { tow, ..plain }, |_| {}), missing(0, far, 0));
+    // M0, a row link, a redefinition.
+    let m0 = at(&plain, |b| {
+        b.write(0x10, &[0, 0x9000]);
+    });
+    assert_eq!(m0, missing(0, far, 0x10));
+    let link = at(&plain, |b| {
+        b.row(0x100, 0x9000, &[]);
+    });
+    assert_eq!(link, missing(1, far, 0x100));
+    let redefinition = at(&plain, |b| {
+        b.write(
+            0x100,
+            &[0, 0, 0x8001, 0, 0x9000, 0, 0x9100, 0, 0x9200, 0x101],
+        );
+    });
+    assert_eq!(redefinition, missing(0, far, 0x106));
+    // Lists: of the second segment, without and with a redefinition pointer before it.
+    let codes = at(&plain, |b| {
+        b.row(0x100, 0, &[(0x200, 0, 2, 2), (0x9000, 0, 2, 2)]);
+    });
+    assert_eq!(codes, missing(0, far, 0x110));
+    let after = at(&plain, |b| {
+        b.write(0x100, &[0, 0, 0x8002, 0, 1, 0, 0x200, 0, 0, 0x101]);
+        b.write(0x114, &[0, 0x9000, 0, 0, 0x101]);
+    });
+    assert_eq!(after, missing(0, far, 0x114));
+    let attributes = at(&plain, |b| {
+        b.row(0x100, 0, &[(0x200, 0, 2, 2), (0x210, 0x9000, 2, 2)])
+            .write(0x210, &[0x8080]);
+    });
+    assert_eq!(attributes, missing(0, far, 0x114));
+    // Fill words: a list's own pointer, however far it was read.
+    let fill = |b: &mut Board| {
+        b.write(0x16, &[0x120])
+            .row(0x100, 0, &[(0x210, 0x7FFE, 2, 2)])
+            .write(0x210, &[0x4180])
+            .write(0x7FFE, &[0x8001]);
+    };
+    assert_eq!(at(&plain, fill), missing(0, 0x8000, 0x10A));
+    // Windows: the link of the one before, its rows' pointer, a window row's link, its lists.
+    let next = at(&windows, |b| {
+        b.window(0x400, 0x9000, 0, (0, 1), (0, 1));
+    });
+    assert_eq!(next, missing(2, far, 0x400));
+    let first = at(&windows, |b| {
+        b.window(0x400, 0, 0x9000, (1, 1), (0, 1));
+    });
+    assert_eq!(first, missing(1, far, 0x404));
+    let rows = at(&windows, |b| {
+        b.window(0x400, 0, 0x420, (1, 2), (0, 1))
+            .row(0x420, 0x9000, &[]);
+    });
+    assert_eq!(rows, missing(2, far, 0x420));
+    let inside = at(&windows, |b| {
+        b.window(0x400, 0, 0x420, (0, 0), (0, 3))
+            .row(0x420, 0, &[(0, 0, 0, 1), (0x9000, 0, 2, 2)])
+            .write(0x424, &[0x8002]);
+    });
+    assert_eq!(inside, missing(0, far, 0x430));
+    let list = at(&windows, |b| {
+        b.window(0x400, 0, 0x420, (0, 0), (0, 3))
+            .row(0x420, 0, &[(0x210, 0x9000, 2, 2)])
+            .write(0x210, &[0x8080]);
+    });
+    assert_eq!(list, missing(0, far, 0x42A));
+}
+
+/// Pointers begin where the step comes to: after a page's last word at its first one, linear after FFFFFE at 0.
+#[test]
+fn pointers_begin_after_a_wrap() {
+    let segmented = Settings {
+        linear: false,
+        ..wide()
+    };
+    // A block at FFFA whose first segment begins at 0, and the list's pointer at 4; page 1 is not there.
+    let mut board = Board::new(0x0120);
+    board.memory.resize(0x8000, 0);
+    board.write(0x10, &[0, 0xFFFA]).write(0xFFFA, &[0, 0, 1]);
+    board.write(0, &[0x0100, 0, 0, 0, 0x0202]);
+    let refusal = board.first_row(&segmented, 0).unwrap_err();
+    assert_eq!(refusal, missing(0, 0x1_0000, 0));
+    board.write(0, &[0, 0, 0x0100, 0, 0x0202]);
+    let refusal = board.first_row(&segmented, 0).unwrap_err();
+    assert_eq!(refusal, missing(0, 0x1_0000, 4));
+    // A redefinition's pointer at 0.
+    board
+        .write(0xFFFA, &[0, 0, 0x8000])
+        .write(0, &[0x0100, 0, 0, 0, 0]);
+    let refusal = board.first_row(&segmented, 0).unwrap_err();
+    assert_eq!(refusal, missing(0, 0x1_0000, 0));
+
+    // Linear, in all that 24 bits address: a window block at FFFFFC has its second pointer at 0.
+    let mut board = Board::new(0x0020);
+    board.memory.resize(0x80_0000, 0);
+    board
+        .write(0xFF_FFFC, &[0, 0x500])
+        .write(0, &[0, 0x600, 0x0003, 0x0001]);
+    let settings = Settings {
+        tow: [0xFF, 0xFFFC],
+        ..wide()
+    };
+    let state = start(&settings, &board.memory, 0).unwrap().state;
+    let window = state.fields.window.unwrap();
+    let pointer = |address, from| Pointer { address, from };
+    assert_eq!(state.fields.next_row, pointer(0x100, 0x10));
+    assert_eq!(window.next_block, pointer(0x500, 0xFF_FFFC));
+    assert_eq!(window.next_row, pointer(0x600, 0));
+}
+
+/// A state's addresses of pointers: those that are refused, and that the others are believed.
+#[test]
+fn pointers_of_states() {
+    let mut board = Board::new(0x0020);
+    board
+        .window(0x400, 0, 0x420, (0, 3), (0, 1))
+        .row(0x420, 0, &[]);
+    let settings = Settings {
+        tow: [0, 0x400],
+        ..wide()
+    };
+    let begun = start(&settings, &board.memory, 0).unwrap().state;
+    let places: [fn(&mut State) -> &mut Pointer; 3] = [
+        |state| &mut state.fields.next_row,
+        |state| &mut state.fields.window.as_mut().unwrap().next_row,
+        |state| &mut state.fields.window.as_mut().unwrap().next_block,
+    ];
+    let number = |place: fn(&mut State) -> &mut Pointer, address, from| {
+        let mut state = begun;
+        *place(&mut state) = Pointer { address, from };
+        let answer = row(&settings, &board.memory, &mut state, &mut [0; CELLS]);
+        let parts = effect(&settings, &board.memory, &state.fields).0;
+        match answer {
+            Ok(_) => 0,
+            Err(refusal) => {
+                assert_eq!(parts.clear, Part::Refuse(refusal));
+                refusal.number
+            }
+        }
+    };
+    for place in places {
+        for from in [1, 0x11, 0xFF_FFFF, 0x100_0000, u32::MAX, 0x8000_0000] {
+            assert_eq!(number(place, 0x420, from), 3, "{from:X}");
+            assert_eq!(number(place, 0, from), 3, "{from:X}");
+        }
+        for from in [0, 2, 0xFF_FFFE] {
+            assert_eq!(number(place, 0x420, from), 0);
+            let beside_null = if from == 0 { 0 } else { 3 };
+            assert_eq!(number(place, 0, from), beside_null);
+        }
+    }
+    // Believed as it stands.
+    let mut state = begun;
+    state.fields.next_row = Pointer {
+        address: 0x9000,
+        from: 0xABC_DE0,
+    };
+    let answer = row(&settings, &board.memory, &mut state, &mut [0; CELLS]);
+    assert_eq!(answer.unwrap_err(), missing(0, 0x9000, 0xABC_DE0));
+    // No window: its pointers do not matter. A passed one's are judged too.
+    state.fields.row = 9;
+    state.fields.next_row = begun.fields.next_row;
+    state.fields.window.as_mut().unwrap().next_row.from = 1;
+    let answer = row(&settings, &board.memory, &mut state, &mut [0; CELLS]);
+    assert_eq!(answer.unwrap_err().number, 3);
+}
+
 /// Cells name their window along the chain; its fill does not.
 #[test]
 fn windows_are_numbered() {
@@ -801,8 +1007,14 @@ fn numbers_of_states() {
         last_row: 5,
         first_column: 0,
         last_column: 0,
-        next_row: 0,
-        next_block: 0x410,
+        next_row: Pointer {
+            address: 0,
+            from: 0,
+        },
+        next_block: Pointer {
+            address: 0x410,
+            from: 0,
+        },
         number: 5,
     });
     let mut cells = [0; CELLS];
@@ -900,7 +1112,10 @@ struct Tally {
 /// Runs a case's calls, each held against the plain form, and tallies refusals.
 fn compare_case(case: &Case, tally: &mut Tally) {
     let (settings, memory) = (&case.settings, &case.memory[..]);
-    if let Err(refusal) = start(settings, memory, 0) {
+    let by_plain = plain::start(settings, memory, 0);
+    let by_plain = by_plain.map(|(state, words)| Start { state, words });
+    assert_eq!(start(settings, memory, 0), by_plain);
+    if let Err(refusal) = by_plain {
         if case.state.is_none() {
             tally.calls[usize::from(refusal.number)] += 1;
         }

@@ -264,6 +264,8 @@ pub fn all() -> Vec<Vector> {
     latches(&mut set);
     frames(&mut set);
     scrolls(&mut set);
+    pointers(&mut set);
+    numbers(&mut set);
     set.0
 }
 
@@ -415,29 +417,33 @@ fn settings(set: &mut Set) {
 fn missing_words(set: &mut Set) {
     set.sketch(
         "missing-main-block-part",
-        "refused 7 row 0 at 008000",
+        "refused 7 row 0 at 008000 from 000000",
         |s| s.top = [0, 0x7FF8],
     );
     set.sketch(
         "missing-first-window-block",
-        "refused 7 row 0 at 008000",
+        "refused 7 row 0 at 008000 from 000000",
         |s| s.tow = 0x7FFC,
     );
     set.sketch(
         "missing-row-block-segment",
-        "refused 7 row 1 at 008000",
+        "refused 7 row 1 at 008000 from 000100",
         |s| {
             s.row(0x100, 0x7FF6, &[])
                 .row(0x7FF6, 0, &[(0x200, 0, 0, 0)]);
             s.words.retain(|&(address, _)| address < 0x8000);
         },
     );
-    set.sketch("missing-redefinition", "refused 7 row 0 at 020000", |s| {
-        s.block(0x100, 0, Some(0x2_0000), &[]);
-    });
+    set.sketch(
+        "missing-redefinition",
+        "refused 7 row 0 at 020000 from 000106",
+        |s| {
+            s.block(0x100, 0, Some(0x2_0000), &[]);
+        },
+    );
     set.sketch(
         "missing-window-row-block",
-        "refused 7 row 0 at 00FFF0",
+        "refused 7 row 0 at 00FFF0 from 000184",
         |s| {
             s.tow = 0x180;
             s.window(0x180, 0, 0xFFF0, (0, 0), (0, 1))
@@ -446,25 +452,33 @@ fn missing_words(set: &mut Set) {
     );
     set.sketch(
         "missing-code-word-after-latch",
-        "refused 7 row 1 at 008000",
+        "refused 7 row 1 at 008000 from 000116",
         |s| {
             s.row(0x100, 0x110, &[])
                 .row(0x110, 0, &[(0x7FFE, 0x300, 4, 4)]);
             s.text(0x7FFE, &[0x80, 0x41]).write(0x300, &[0x8001]);
         },
     );
-    set.sketch("missing-attribute-word", "refused 7 row 0 at 008000", |s| {
-        s.row(0x100, 0, &[(0x200, 0x7FFE, 4, 4)])
-            .text(0x200, &[0x80, 0x81, 0x41, 0x42]);
-    });
-    set.sketch("missing-fill-word", "refused 7 row 0 at 008000", |s| {
-        s.fill_flag = true;
-        s.row(0x100, 0, &[(0x200, 0x7FFE, 2, 2)])
-            .text(0x200, &[0x80, 0x41]);
-    });
+    set.sketch(
+        "missing-attribute-word",
+        "refused 7 row 0 at 008000 from 00010A",
+        |s| {
+            s.row(0x100, 0, &[(0x200, 0x7FFE, 4, 4)])
+                .text(0x200, &[0x80, 0x81, 0x41, 0x42]);
+        },
+    );
+    set.sketch(
+        "missing-fill-word",
+        "refused 7 row 0 at 008000 from 00010A",
+        |s| {
+            s.fill_flag = true;
+            s.row(0x100, 0, &[(0x200, 0x7FFE, 2, 2)])
+                .text(0x200, &[0x80, 0x41]);
+        },
+    );
     set.sketch(
         "missing-list-at-end-of-page-0-segmented",
-        "refused 7 row 0 at 00FFFE",
+        "refused 7 row 0 at 00FFFE from 000106",
         |s| {
             s.segmented = true;
             s.row(0x100, 0, &[(0xFFFE, 0, 4, 4)]);
@@ -472,14 +486,14 @@ fn missing_words(set: &mut Set) {
     );
     set.sketch(
         "missing-list-at-fffffe-linear",
-        "refused 7 row 0 at FFFFFE",
+        "refused 7 row 0 at FFFFFE from 000106",
         |s| {
             s.row(0x100, 0, &[(0xFF_FFFE, 0, 4, 4)]);
         },
     );
     set.sketch(
         "missing-page-127-segmented",
-        "refused 7 row 0 at 7F0010",
+        "refused 7 row 0 at 7F0010 from 000106",
         |s| {
             s.segmented = true;
             s.row(0x100, 0x7F_0010, &[(0x7F_0010, 0, 1, 1)]);
@@ -924,7 +938,7 @@ fn scrolls(set: &mut Set) {
     });
     set.sketch(
         "scroll-after-missing-main-block-part",
-        "refused 7 row 0 at 008000",
+        "refused 7 row 0 at 008000 from 000000",
         |s| {
             s.top = [0, 0x7FF4];
             s.write(0x7FFC, &[0x7000]).done()
@@ -938,6 +952,177 @@ fn scrolls(set: &mut Set) {
         s.row(0x100, 0x100, &[(0x200, 0, 2, 2)]).text(0x200, b"AB");
         s.write(0x18, &[0xBFFF]).done()
     });
+}
+
+/// Refusal 7 through every kind of pointer, told by the address where that begins.
+fn pointers(set: &mut Set) {
+    set.sketch("from-m0", "refused 7 row 0 at 009000 from 000010", |s| {
+        s.write(0x12, &[0x9000]).done()
+    });
+    set.sketch(
+        "from-row-link",
+        "refused 7 row 1 at 009000 from 000100",
+        |s| {
+            s.row(0x100, 0x9000, &[(0x200, 0, 2, 2)])
+                .text(0x200, b"AB")
+                .done()
+        },
+    );
+    set.sketch(
+        "from-redefinition-last-word",
+        "refused 7 row 0 at 008000 from 000106",
+        |s| {
+            s.block(0x100, 0x9000, Some(0x7FFC), &[(0x9100, 0x9200, 2, 2)])
+                .done()
+        },
+    );
+    set.sketch(
+        "from-code-pointer-after-redefinition",
+        "refused 7 row 0 at 009000 from 000114",
+        |s| {
+            s.block(0x100, 0, Some(0), &[(0x200, 0, 2, 2), (0x9000, 0, 2, 2)])
+                .text(0x200, b"AB")
+                .done()
+        },
+    );
+    set.sketch(
+        "from-attribute-pointer-of-second-segment",
+        "refused 7 row 0 at 009000 from 000114",
+        |s| {
+            s.row(0x100, 0, &[(0x200, 0, 1, 1), (0x202, 0x9000, 2, 2)])
+                .text(0x200, &[0x41, 0, 0x42, 0x80])
+                .done()
+        },
+    );
+    set.sketch(
+        "from-fill-word-of-null-code",
+        "refused 7 row 0 at 008000 from 00010A",
+        |s| {
+            s.fill_flag = true;
+            s.row(0x100, 0, &[(0, 0x7FFE, 0, 2)])
+                .write(0x7FFE, &[0x8001])
+                .done()
+        },
+    );
+    set.sketch(
+        "from-fill-word-of-last-segment-drawn",
+        "refused 7 row 0 at 009000 from 00010A",
+        |s| {
+            s.fill_flag = true;
+            s.tow = 0x180;
+            s.window(0x180, 0, 0, (0, 0), (2, 3))
+                .row(0x100, 0, &[(0x200, 0x9000, 2, 2), (0, 0x300, 0, 2)])
+                .text(0x200, b"AB")
+                .done()
+        },
+    );
+    set.sketch(
+        "from-window-link",
+        "refused 7 row 1 at 009000 from 000180",
+        |s| {
+            s.tow = 0x180;
+            s.window(0x180, 0x9000, 0, (0, 0), (0, 1)).done()
+        },
+    );
+    set.sketch(
+        "from-row-pointer-of-second-window",
+        "refused 7 row 1 at 009000 from 000194",
+        |s| {
+            s.tow = 0x180;
+            s.window(0x180, 0x190, 0, (0, 0), (0, 1))
+                .window(0x190, 0, 0x9000, (1, 1), (0, 1))
+                .done()
+        },
+    );
+    set.sketch(
+        "from-window-row-link",
+        "refused 7 row 1 at 009000 from 0001A0",
+        |s| {
+            s.tow = 0x180;
+            s.window(0x180, 0, 0x1A0, (0, 1), (0, 1))
+                .row(0x1A0, 0x9000, &[(0x210, 0, 2, 2)])
+                .text(0x210, b"WX")
+                .done()
+        },
+    );
+    set.sketch(
+        "from-code-pointer-in-window",
+        "refused 7 row 0 at 009000 from 0001A6",
+        |s| {
+            // Bit 15 of the count word is ignored: the first segment follows it.
+            s.tow = 0x180;
+            s.window(0x180, 0, 0x1A0, (0, 0), (0, 1))
+                .row(0x1A0, 0, &[(0x9000, 0, 2, 2)])
+                .write(0x1A4, &[0x8001])
+                .done()
+        },
+    );
+    set.sketch(
+        "from-attribute-pointer-in-window",
+        "refused 7 row 0 at 008000 from 0001B4",
+        |s| {
+            s.tow = 0x180;
+            s.window(0x180, 0, 0x1A0, (0, 0), (0, 3))
+                .row(0x1A0, 0, &[(0x210, 0, 1, 1), (0x212, 0x7FFE, 2, 2)])
+                .text(0x210, &[0x57, 0, 0x80, 0x81])
+                .write(0x7FFE, &[0x8001])
+                .done()
+        },
+    );
+    set.sketch(
+        "from-fill-word-in-window",
+        "refused 7 row 0 at 009000 from 0001AA",
+        |s| {
+            s.fill_flag = true;
+            s.tow = 0x180;
+            s.window(0x180, 0, 0x1A0, (0, 0), (0, 3))
+                .row(0x1A0, 0, &[(0x210, 0x9000, 2, 2)])
+                .text(0x210, b"WX")
+                .done()
+        },
+    );
+    set.sketch(
+        "from-segmented-link-with-ignored-bits",
+        "refused 7 row 1 at 010010 from 000100",
+        |s| {
+            s.segmented = true;
+            s.row(0x100, 0x1_0010, &[(0x200, 0, 2, 2)])
+                .text(0x200, b"AB")
+                .write(0x100, &[0x81FF, 0x0011])
+                .done()
+        },
+    );
+}
+
+/// Cells that name their window along the chain.
+fn numbers(set: &mut Set) {
+    set.sketch("number-of-each-window", "end rows 5 words", |s| {
+        s.tow = 0x180;
+        s.lines = 5;
+        s.window(0x180, 0x190, 0x1B0, (0, 0), (0, 2))
+            .window(0x190, 0x1A0, 0x1B0, (1, 2), (3, 5))
+            .window(0x1A0, 0, 0x1B0, (3, 3), (6, 7))
+            .row(0x1B0, 0, &[(0x210, 0, 2, 2)])
+            .row(0x100, 0x100, &[])
+            .text(0x210, b"WX")
+            .done()
+    });
+    set.sketch(
+        "number-goes-on-after-window-without-segments",
+        "end rows 3 words",
+        |s| {
+            s.tow = 0x180;
+            s.lines = 3;
+            s.fill_flag = true;
+            s.cursor = Some((1, 1));
+            s.window(0x180, 0x190, 0, (0, 0), (0, 2))
+                .window(0x190, 0, 0x1B0, (1, 1), (0, 3))
+                .row(0x1B0, 0, &[(0x210, 0x300, 2, 2)])
+                .text(0x210, &[0x57, 0x80])
+                .write(0x300, &[0xC7FF, 0x8001])
+                .done()
+        },
+    );
 }
 
 impl Sketch {

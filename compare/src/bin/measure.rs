@@ -4,7 +4,7 @@
 //!
 //! Usage: measure [PART OF A NAME]
 
-use compare::host::{self, EFFECT, ROW_ANSWER, SETTINGS as SETTINGS_COUNT, STATE};
+use compare::host::{self, EFFECT, ROW_ANSWER, ROW_WORDS, SETTINGS as SETTINGS_COUNT, STATE};
 use compare::library;
 use compare::rules::{self, Settings, State, CELLS};
 use compare::script::UNSET;
@@ -259,7 +259,7 @@ fn words(bench: &mut Bench) -> u32 {
     let (cells, answer) = (bench.cells, bench.answer);
     bench.host_rows();
     assert!(cells == bench.cells && answer == bench.answer);
-    answer[6]
+    answer[ROW_WORDS]
 }
 
 /// Measures a frame: three kinds of call that take turns.

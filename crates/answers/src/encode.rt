@@ -9,13 +9,14 @@ ghost use lib.ListN.{length};
 ghost use Rattle.answers.specs.AnswerNumbers.{sheetNumbers, oneNumber, rowNumbers, withRefusal};
 
 pub fn write_sheet(sheet: Sheet, into: &mut [u32])
-    requires { ⌜ length (now into) ≡ 20 ⌝ }
+    requires { ⌜ length (now into) ≡ 21 ⌝ }
     ensures { λ _. ⌜ now (into .exit) ≡ sheetNumbers sheet ⌝ }
 {
     let e = sheet.even;
     let o = sheet.odd;
     let c = sheet.clocks;
     let numbers = [
+        0,
         0,
         0,
         e.sync as u32,
@@ -42,20 +43,21 @@ pub fn write_sheet(sheet: Sheet, into: &mut [u32])
 
 // An accepted call's one number.
 pub fn write_number(n: u32, into: &mut [u32])
-    requires { ⌜ length (now into) ≡ 3 ⌝ }
+    requires { ⌜ length (now into) ≡ 4 ⌝ }
     ensures { λ _. ⌜ now (into .exit) ≡ oneNumber n ⌝ }
 {
-    let numbers = [0, 0, n];
+    let numbers = [0, 0, 0, n];
     encode::write(&numbers, into);
 }
 
 pub fn write_row(row: DrawnRow, into: &mut [u32])
-    requires { ⌜ length (now into) ≡ 7 ⌝ }
+    requires { ⌜ length (now into) ≡ 8 ⌝ }
     ensures { λ _. ⌜ now (into .exit) ≡ rowNumbers row ⌝ }
 {
     let format = row.format;
     let numbers = [
-        row.number as u32,
+        row.number,
+        0,
         0,
         row.lines as u32,
         format.attributes as u32,
@@ -66,12 +68,13 @@ pub fn write_row(row: DrawnRow, into: &mut [u32])
     encode::write(&numbers, into);
 }
 
-// A refusal's row and address, in an answer; its number.
+// A refusal's row and addresses, in an answer; its number.
 pub fn refuse(refusal: Refusal, answer: &mut [u32]) -> u8
-    requires { ⌜ 2 ≤ length (now answer) ⌝ }
+    requires { ⌜ 3 ≤ length (now answer) ⌝ }
     ensures { λ r. ⌜ (r ≡ refusal .number) × (now (answer .exit) ≡ withRefusal refusal (now (answer .entry))) ⌝ }
 {
-    answer[0] = refusal.row as u32;
+    answer[0] = refusal.row;
     answer[1] = refusal.address;
+    answer[2] = refusal.from;
     refusal.number
 }

@@ -14,7 +14,7 @@ ghost use Rattle.answers.specs.AfterCall.{answered, afterSheet, stated, 
 pub mod encode; // answers as numbers
 
 pub fn sheet(settings: Settings, answer: &mut [u32]) -> u8
-    requires { ⌜ length (now answer) ≡ 20 ⌝ }
+    requires { ⌜ length (now answer) ≡ 21 ⌝ }
     ensures { λ r. ⌜ answered r (now (answer .exit)) ≡ afterSheet (now (answer .entry)) (sheetCall settings) ⌝ }
 {
     match settings::settings_sheet(settings) {
@@ -33,7 +33,7 @@ pub fn start(
     state: &mut [u32],
     answer: &mut [u32],
 ) -> u8
-    requires { ⌜ (length (now state) ≡ 20) × (length (now answer) ≡ 3) ⌝ }
+    requires { ⌜ (length (now state) ≡ 23) × (length (now answer) ≡ 4) ⌝ }
     ensures { λ r. ⌜ stated r (now (state .exit)) (now (answer .exit)) ≡ afterStart (now (state .entry)) (now (answer .entry)) (startCall latch settings (now (memory .entry))) ⌝ }
 {
     match start::start(settings, memory, latch) {
@@ -55,7 +55,7 @@ pub fn next_row(
     cells: &mut [u32],
     answer: &mut [u32],
 ) -> u8
-    requires { ⌜ (length (now state) ≡ 20) × (length (now answer) ≡ 7) ⌝ }
+    requires { ⌜ (length (now state) ≡ 23) × (length (now answer) ≡ 8) ⌝ }
     ensures { λ r. ⌜ drawn r (now (state .exit)) (now (cells .exit)) (now (answer .exit)) ≡ afterRow (now (state .entry)) (now (answer .entry)) (rowCall settings (now (memory .entry)) from (now (cells .entry))) ⌝ }
 {
     match row::row(settings, memory, from, cells) {

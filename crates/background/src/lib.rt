@@ -34,10 +34,11 @@ pub fn background_block(
             match blocks::redefinition(mem, linear, redefinition, format) {
                 FormatRead::Read { format, words } => {
                     let link = b.link;
+                    let count = b.count;
                     let block = BlockHead {
                         link,
                         redefinition,
-                        count: b.count,
+                        count,
                         words: b.words + words,
                     };
                     BackgroundRead::Read { block, format }
@@ -58,11 +59,16 @@ pub fn background_row(
 ) -> BackgroundRead
     ensures { λ r. ⌜ backgroundRead (settings .linear) r (now (back .exit)) ≡ run (now (mem .entry)) (backgroundRow settings fields) ⌝ }
 {
-    let next = fields.next;
+    // field by field, as in `state::in_range`
+    let next = Pointer {
+        address: fields.next.address,
+        from: fields.next.from,
+    };
     let format = fields.format;
     match background_block(mem, settings.linear, next, format, back) {
         BackgroundRead::Read { block, format } => {
-            let m = layout::measure_segments(settings.linear, settings.hidden, back, block.count);
+            let count = block.count;
+            let m = layout::measure_segments(settings.linear, settings.hidden, back, count);
             if !m.fit {
                 return BackgroundRead::Refused(memory::fault_of(9));
             }

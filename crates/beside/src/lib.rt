@@ -15,7 +15,7 @@ ghost use Rattle.beside.specs.Beside.{told, besideCalled, withOneLine, r
 
 // The answer of an accepted row beside the cut: no next state, since nothing of it goes on into the frame.
 pub struct BesideRow {
-    pub number: u16,
+    pub number: u32,
     pub lines: u16,
     pub format: RowFormat,
     pub words: u32,

@@ -11,11 +11,11 @@ use lib.Dec.{ltb, leb, lit≤}
 use borrow.Author.Tests.{leb-true}
 use Rattle.memory.specs.declared.Pointer.{Pointer}
 use Rattle.memory.specs.Word.{if_then_else_, bit, at}
-use Rattle.memory.specs.Address.{null, further}
+use Rattle.memory.specs.Address.{null, ahead, further}
 use Rattle.memory.proofs.ReadBounds.{Words, Reads, dones, weaken, bind, check-reads, if-reads, both, words-read}
 use Rattle.blocks.specs.declared.Segment.{Segment}
 use Rattle.blocks.specs.declared.RowFormat.{RowFormat}
-use Rattle.blocks.specs.RowBlock.{formatOf, segmentOf, segmentsOf, restOfBlock, blockAt, rowBlockAt, windowRowAt, redefined}
+use Rattle.blocks.specs.RowBlock.{formatOf, segmentOf, segmentsAt, restOfBlock, blockAt, rowBlockAt, windowRowAt, redefined}
 
 -- ---- row blocks ----
 -- segments whose lengths fit a byte; at most n of them
@@ -26,11 +26,11 @@ Short (g ∷ gs) = (g .length ≤ 255) × Short gs
 abbrev pub Few : ℕ → List Segment → Type 0
 Few n gs = Short gs × (length gs ≤ n)
 
-segments-short : (linear : Bool) (n : ℕ) (b : List ℕ) → Words b → Few n (segmentsOf linear n b)
-unfolding segmentsOf segmentOf
-segments-short linear zero b h = (tt, zero-le)
-segments-short linear (suc n) b h =
-    let rest = segments-short linear n (drop 5 b) (λ i. rw (getD-drop 5 b i 0) (h (5 + i))) in
+segments-short : (linear : Bool) (a n : ℕ) (b : List ℕ) → Words b → Few n (segmentsAt linear a n b)
+unfolding segmentsAt segmentOf
+segments-short linear a zero b h = (tt, zero-le)
+segments-short linear a (suc n) b h =
+    let rest = segments-short linear (ahead linear 5 a) n (drop 5 b) (λ i. rw (getD-drop 5 b i 0) (h (5 + i))) in
     ((omega (arith, h 4), rest .0), omega arith)
 
 rest-reads : (linear : Bool) (p : Pointer) (head : List ℕ) (pointed : ℕ)
@@ -40,7 +40,7 @@ rest-reads linear p head pointed =
     let n = at head 2 % 16 in
     bind {n = pointed} {k = 75} (omega arith) (words-read linear pointed (further linear 3 p)) λ re _.
     bind {n = 5 * n} {k = 0} (omega arith) (words-read linear (5 * n) (further linear (3 + pointed) p)) λ gs h.
-    let few = segments-short linear n gs (h .0) in
+    let few = segments-short linear (ahead linear (3 + pointed) (p .address)) n gs (h .0) in
     dones (few .0, omega arith)
 
 pub block-reads : (linear redefines : Bool) (p : Pointer)

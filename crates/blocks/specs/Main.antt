@@ -13,10 +13,10 @@ abbrev pub scanLines : ℕ → ℕ
 scanLines w = w % 32 + 1
 
 -- "Main (7 words). M0,M1 first row block; M2 cursor X high byte, Y low byte; M3 fill code in the low byte, fill flag in
--- bit 8; M4, M5 read, without effect; M6 low five bits plus 1 = scan lines per row."
-unfoldable pub mainBlock : Bool → List ℕ → MainBlock
-mainBlock linear b = record {
-  rows = pointer linear (at b 0) (at b 1);
+-- bit 8; M4, M5 read, without effect; M6 low five bits plus 1 = scan lines per row." The block is at the address a.
+unfoldable pub mainBlock : Bool → (a : ℕ) → List ℕ → MainBlock
+mainBlock linear a b = record {
+  rows = pointer linear a (at b 0) (at b 1);
   cursor = record { x = high (at b 2); y = low (at b 2) };
   fill = record { code = low (at b 3); flag = bit 8 (at b 3) };
   m4 = at b 4;
@@ -26,4 +26,4 @@ mainBlock linear b = record {
 unfoldable pub mainBlockAt : Bool → Pointer → Reading MainBlock
 mainBlockAt linear p = do
   b ← words linear 7 p
-  done (mainBlock linear b)
+  done (mainBlock linear (p .address) b)

@@ -6,24 +6,30 @@ use lib.ListN.{drop}
 use Rattle.memory.specs.Word.{if_then_else_, bit, high, low, at}
 use Rattle.memory.specs.declared.Pointer.{Pointer}
 use Rattle.memory.specs.Reading.{Reading, done, _>>=_}
-use Rattle.memory.specs.Address.{to, pointer, null, further, words}
+use Rattle.memory.specs.Address.{nothing, pointer, null, ahead, further, words}
 use Rattle.blocks.specs.declared.Segment.{Segment}
+use Rattle.blocks.specs.declared.SegmentCount.{SegmentCount}
 use Rattle.blocks.specs.declared.RowFormat.{RowFormat}
 use Rattle.blocks.specs.Main.{scanLines}
 
--- "per segment: code pointer (2), attribute pointer (2), a word with length L in the high byte and visible V in the low"
-unfoldable pub segmentOf : Bool → List ℕ → Segment
-segmentOf linear b = record {
-  codes = pointer linear (at b 0) (at b 1);
-  attributes = pointer linear (at b 2) (at b 3);
+-- "per segment: code pointer (2), attribute pointer (2), a word with length L in the high byte and visible V in the low". The segment is
+-- at the address a.
+unfoldable pub segmentOf : Bool → (a : ℕ) → List ℕ → Segment
+segmentOf linear a b = record {
+  codes = pointer linear a (at b 0) (at b 1);
+  attributes = pointer linear (ahead linear 2 a) (at b 2) (at b 3);
   length = high (at b 4);
   visible = low (at b 4);
 }
 
--- n segments, five words each
-unfoldable pub segmentsOf : Bool → ℕ → List ℕ → List Segment
-segmentsOf linear zero b = []
-segmentsOf linear (suc n) b = segmentOf linear b ∷ segmentsOf linear n (drop 5 b)
+-- n segments, five words each, the first at the address a
+unfoldable pub segmentsAt : Bool → (a n : ℕ) → List ℕ → List Segment
+segmentsAt linear a zero b = []
+segmentsAt linear a (suc n) b = segmentOf linear a b ∷ segmentsAt linear (ahead linear 5 a) n (drop 5 b)
+
+-- as many as counted
+abbrev pub segmentsOf : Bool → SegmentCount → List ℕ → List Segment
+segmentsOf linear count b = segmentsAt linear (count .at) (count .number) b
 
 -- "Row. Link (2); a word whose bits 3..0 count segments and whose bit 15 says that a redefinition pointer (2) follows; then
 -- per segment .. Other bits are ignored."
@@ -34,23 +40,23 @@ pub record RowBlock : Type 0 where
 
 -- "A null row link .. means every later row has no segments .. Then no block is read."
 abbrev pub noBlock : RowBlock
-noBlock = record { link = to 0; redefinition = to 0; segments = [] }
+noBlock = record { link = nothing; redefinition = nothing; segments = [] }
 
--- a block whose first three words are `head`, with its segments from p on
-abbrev pub segmentsFrom : Bool → List ℕ → Pointer → Pointer → Reading RowBlock
-segmentsFrom linear head redefinition p = do
-  gs ← words linear (5 * (at head 2 % 16)) p
+-- the block at p whose first three words are `head`, with its segments from word k on
+abbrev pub segmentsFrom : Bool → Pointer → List ℕ → Pointer → ℕ → Reading RowBlock
+segmentsFrom linear p head redefinition k = do
+  gs ← words linear (5 * (at head 2 % 16)) (further linear k p)
   done (record {
-    link = pointer linear (at head 0) (at head 1);
+    link = pointer linear (p .address) (at head 0) (at head 1);
     redefinition = redefinition;
-    segments = segmentsOf linear (at head 2 % 16) gs;
+    segments = segmentsAt linear (ahead linear k (p .address)) (at head 2 % 16) gs;
   })
 
 -- the rest of the block at p, which has `pointed` words (2 or 0) of a redefinition pointer
 unfoldable pub restOfBlock : Bool → Pointer → List ℕ → ℕ → Reading RowBlock
 restOfBlock linear p head pointed = do
   re ← words linear pointed (further linear 3 p)
-  segmentsFrom linear head (pointer linear (at re 0) (at re 1)) (further linear (3 + pointed) p)
+  segmentsFrom linear p head (pointer linear (ahead linear 3 (p .address)) (at re 0) (at re 1)) (3 + pointed)
 
 unfoldable pub blockAt : Bool → Bool → Pointer → Reading RowBlock
 blockAt linear redefines p = if null p then done noBlock else do

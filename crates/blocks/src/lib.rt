@@ -4,13 +4,13 @@ use memory::Pointer;
 use memory::WordsRead;
 ghost use mathlib.Core.Path.{_≡_};
 ghost use mathlib.Core.Bool.{_&&_};
-ghost use Prim.Native.Nat.{_*_, _≤_, _%_};
-ghost use lib.ListN.{length, drop};
+ghost use Prim.Native.Nat.{_+_, _≤_, _%_};
+ghost use lib.ListN.{length};
 ghost use Rattle.memory.specs.Word.{bit};
 ghost use Rattle.memory.specs.Reading.{run, runFrom};
 ghost use Rattle.blocks.specs.Main.{mainBlock, mainBlockAt};
-ghost use Rattle.blocks.specs.RowBlock.{segmentOf, segmentsFrom, restOfBlock, blockAt, rowBlockAt, windowRowAt, formatOf, redefined};
-ghost use Rattle.blocks.specs.Answers.{mainRead, blockRead, formatRead};
+ghost use Rattle.blocks.specs.RowBlock.{segmentsFrom, blockAt, rowBlockAt, windowRowAt, formatOf, redefined};
+ghost use Rattle.blocks.specs.Answers.{mainRead, blockRead, formatRead, segmentIn, pointerWords, pointerRead, redefinitionPointer};
 
 // The absolute cursor's place.
 pub struct Cursor {
@@ -55,17 +55,30 @@ pub enum MainRead {
     Refused(Fault),
 }
 
-// A row block but for its segments: link, redefinition pointer, count of segments, and the words read.
+// How many segments a block has, and the address of the first.
+pub struct SegmentCount {
+    pub number: u8,
+    pub at: u32,
+}
+
+// A row block but for its segments: the words read, count of segments, link and redefinition pointer. The pointers stand last, clear of
+// the parts of a refusal, so that each is written and read in one piece.
 pub struct BlockHead {
+    pub words: u32,
+    pub count: SegmentCount,
     pub link: Pointer,
     pub redefinition: Pointer,
-    pub count: u8,
-    pub words: u32,
 }
 
 // A row block or a window row block, or the refusal of its reading.
 pub enum BlockRead {
     Read(BlockHead),
+    Refused(Fault),
+}
+
+// A block's redefinition pointer, or the refusal of its reading.
+enum PointerRead {
+    Read(Pointer),
     Refused(Fault),
 }
 
@@ -81,7 +94,7 @@ pub fn main_block(mem: &[u16], linear: bool, p: Pointer) -> MainRead
 {
     let mut b = [0u16; 7];
     match memory::read_words(mem, linear, p, &mut b) {
-        WordsRead::Whole => MainRead::Read(main_block_of(linear, &b)),
+        WordsRead::Whole => MainRead::Read(main_block_of(linear, p.address, &b)),
         WordsRead::Refused(fault) => MainRead::Refused(fault),
     }
 }
@@ -123,14 +136,15 @@ pub fn window_row_block(
 }
 
 // Segment `i` of the words of 15; one of zeros past them.
-pub fn segment_at(linear: bool, words: &[u16; 75], i: usize) -> Segment
-    ensures { λ r. ⌜ r ≡ segmentOf linear (drop (5 * i) (now (words .entry))) ⌝ }
+pub fn segment_at(linear: bool, count: SegmentCount, words: &[u16; 75], i: usize) -> Segment
+    ensures { λ r. ⌜ r ≡ segmentIn linear count (now (words .entry)) i ⌝ }
 {
-    segment_in(linear, words, i)
+    segment_in(linear, count, words, i)
 }
 
-fn main_block_of(linear: bool, b: &[u16; 7]) -> MainBlock
-    ensures { λ r. ⌜ r ≡ mainBlock linear (now (b .entry)) ⌝ }
+// The main block at an address, from its words.
+fn main_block_of(linear: bool, at: u32, b: &[u16; 7]) -> MainBlock
+    ensures { λ r. ⌜ r ≡ mainBlock linear at (now (b .entry)) ⌝ }
 {
     let cursor = Cursor {
         x: memory::high_byte(b[2]),
@@ -141,7 +155,7 @@ fn main_block_of(linear: bool, b: &[u16; 7]) -> MainBlock
         flag: b[3] / 256 % 2 == 1,
     };
     MainBlock {
-        rows: memory::pointer_of(linear, b[0], b[1]),
+        rows: memory::pointer_of(linear, at, b[0], b[1]),
         cursor,
         fill,
         m4: b[4],
@@ -171,23 +185,29 @@ fn block_at(
     requires { ⌜ length (now segments) ≡ 75 ⌝ }
     ensures { λ r. ⌜ blockRead linear r (now (segments .exit)) ≡ run (now (mem .entry)) (blockAt linear redefines p) ⌝ }
 {
-    let null = Pointer { address: 0 };
+    let null = Pointer {
+        address: 0,
+        from: 0,
+    };
     if p.address == 0 {
+        let count = SegmentCount { number: 0, at: 0 };
         return BlockRead::Read(BlockHead {
             link: null,
             redefinition: null,
-            count: 0,
+            count,
             words: 0,
         });
     }
     let mut head = [0u16; 3];
     match memory::read_words(mem, linear, p, &mut head) {
         WordsRead::Whole => {
-            if is_pointed(redefines, head[2]) {
-                redefining_block(mem, linear, p, &head, segments)
-            } else {
-                let at = memory::further(linear, 3, p);
-                segments_from(mem, linear, &head, null, at, 3, segments)
+            let pointed = is_pointed(redefines, head[2]);
+            match redefinition_pointer(mem, linear, pointed, p) {
+                PointerRead::Read(redefinition) => {
+                    let words = words_before(pointed);
+                    segments_from(mem, linear, p, &head, redefinition, words, segments)
+                }
+                PointerRead::Refused(fault) => BlockRead::Refused(fault),
             }
         }
         WordsRead::Refused(fault) => BlockRead::Refused(fault),
@@ -201,70 +221,90 @@ fn is_pointed(redefines: bool, w: u16) -> bool
     redefines & memory::bit_15(w)
 }
 
-// The rest of the block at `p` that has a redefinition pointer.
-fn redefining_block(
-    mem: &[u16],
-    linear: bool,
-    p: Pointer,
-    head: &[u16; 3],
-    segments: &mut [u16],
-) -> BlockRead
-    requires { ⌜ length (now segments) ≡ 75 ⌝ }
-    ensures { λ r. ⌜ blockRead linear r (now (segments .exit)) ≡ runFrom 3 (now (mem .entry)) (restOfBlock linear p (now (head .entry)) 2) ⌝ }
+// How many words of a block stand before its segments.
+fn words_before(pointed: bool) -> u32
+    ensures { λ r. ⌜ r ≡ 3 + pointerWords pointed ⌝ }
 {
-    let mut re = [0u16; 2];
-    let at = memory::further(linear, 3, p);
-    match memory::read_words(mem, linear, at, &mut re) {
-        WordsRead::Whole => {
-            let redefinition = memory::pointer_of(linear, re[0], re[1]);
-            let at = memory::further(linear, 5, p);
-            segments_from(mem, linear, head, redefinition, at, 5, segments)
+    if pointed { 5 } else { 3 }
+}
+
+// The redefinition pointer of the block at `p`, of which three words have been read; null where it has none.
+fn redefinition_pointer(mem: &[u16], linear: bool, pointed: bool, p: Pointer) -> PointerRead
+    ensures { λ r. ⌜ pointerRead (pointerWords pointed) r ≡ runFrom 3 (now (mem .entry)) (redefinitionPointer linear p (pointerWords pointed)) ⌝ }
+{
+    if pointed {
+        let mut re = [0u16; 2];
+        let at = memory::further(linear, 3, p);
+        match memory::read_words(mem, linear, at, &mut re) {
+            WordsRead::Whole => PointerRead::Read(memory::pointer_of(
+                linear,
+                at.address,
+                re[0],
+                re[1],
+            )),
+            WordsRead::Refused(fault) => PointerRead::Refused(fault),
         }
-        WordsRead::Refused(fault) => BlockRead::Refused(fault),
+    } else {
+        PointerRead::Read(Pointer {
+            address: 0,
+            from: 0,
+        })
     }
 }
 
-// The segments of a block from `p` on, `words` words having been read.
+// The rest of the block at `p`, of which `words` words have been read: its segments.
 fn segments_from(
     mem: &[u16],
     linear: bool,
+    p: Pointer,
     head: &[u16; 3],
     redefinition: Pointer,
-    p: Pointer,
     words: u32,
     segments: &mut [u16],
 ) -> BlockRead
     requires { ⌜ (length (now segments) ≡ 75) × (words ≤ 5) ⌝ }
-    ensures { λ r. ⌜ blockRead linear r (now (segments .exit)) ≡ runFrom words (now (mem .entry)) (segmentsFrom linear (now (head .entry)) redefinition p) ⌝ }
+    ensures { λ r. ⌜ blockRead linear r (now (segments .exit)) ≡ runFrom words (now (mem .entry)) (segmentsFrom linear p (now (head .entry)) redefinition words) ⌝ }
 {
-    let count = segment_count(head[2]);
-    let n = 5 * count as usize;
-    match memory::read_words(mem, linear, p, &mut segments[..n]) {
-        WordsRead::Whole => BlockRead::Read(BlockHead {
-            link: memory::pointer_of(linear, head[0], head[1]),
-            redefinition,
-            count,
-            words: words + 5 * count as u32,
-        }),
+    let number = segment_count(head[2]);
+    let n = 5 * number as usize;
+    let first = memory::further(linear, words, p);
+    match memory::read_many(mem, linear, first, &mut segments[..n]) {
+        WordsRead::Whole => {
+            let count = SegmentCount {
+                number,
+                at: first.address,
+            };
+            BlockRead::Read(BlockHead {
+                link: memory::pointer_of(linear, p.address, head[0], head[1]),
+                redefinition,
+                count,
+                words: words + 5 * number as u32,
+            })
+        }
         WordsRead::Refused(fault) => BlockRead::Refused(fault),
     }
 }
 
 // As `segment_at`, of a slice of 75 words.
-fn segment_in(linear: bool, words: &[u16], i: usize) -> Segment
+fn segment_in(linear: bool, count: SegmentCount, words: &[u16], i: usize) -> Segment
     requires { ⌜ length (now words) ≡ 75 ⌝ }
-    ensures { λ r. ⌜ r ≡ segmentOf linear (drop (5 * i) (now (words .entry))) ⌝ }
+    ensures { λ r. ⌜ r ≡ segmentIn linear count (now (words .entry)) i ⌝ }
 {
     if i < 15 {
         let k = 5 * i;
+        let at = memory::words_ahead(linear, k as u32, count.at);
+        let list_at = memory::words_ahead(linear, 2, at);
         Segment {
-            codes: memory::pointer_of(linear, words[k], words[k + 1]),
-            attributes: memory::pointer_of(linear, words[k + 2], words[k + 3]),
+            codes: memory::pointer_of(linear, at, words[k], words[k + 1]),
+            attributes: memory::pointer_of(linear, list_at, words[k + 2], words[k + 3]),
             length: memory::high_byte(words[k + 4]),
             visible: memory::low_byte(words[k + 4]),
         }
     } else {
-        let null = Pointer { address: 0 };
+        let null = Pointer {
+            address: 0,
+            from: 0,
+        };
         Segment {
             codes: null,
             attributes: null,

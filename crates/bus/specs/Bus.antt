@@ -63,7 +63,7 @@ allFit t = fits (t .words) && (fits (t .bursts) && fits (t .released))
 
 -- "A refusal met in no row, here and below, has row 0"
 abbrev pub refusal : ℕ → Refusal
-refusal n = record { number = n; row = 0; address = 0 }
+refusal n = record { number = n; row = 0; address = 0; from = 0 }
 
 abbrev pub refuse : ℕ → Totals → Reported
 refuse n t = record { totals = t; answer = Refused (refusal n) }

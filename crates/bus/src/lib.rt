@@ -95,6 +95,7 @@ fn refused(totals: Totals, number: u8) -> Reported
         number,
         row: 0,
         address: 0,
+        from: 0,
     };
     Reported {
         totals,

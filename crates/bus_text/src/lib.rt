@@ -115,7 +115,7 @@ fn next_row(p: Reporting, mem: &[u16], out: &mut [u8; 2048]) -> TextLines
 }
 
 // A row of the program's one screen, as it is handed in.
-fn handed_in(burst: u16, before: u16, words: u32, row: u16) -> BusRow
+fn handed_in(burst: u16, before: u16, words: u32, row: u32) -> BusRow
     requires { ⌜ words < 12000 ⌝ }
     ensures { λ r. ⌜ r ≡ record { burst = burst; words = before + words; screen = oneScreen; row = row } ⌝ }
 {
@@ -123,7 +123,7 @@ fn handed_in(burst: u16, before: u16, words: u32, row: u16) -> BusRow
         burst,
         words: before as u32 + words,
         screen: 0,
-        row: row as u32,
+        row,
     }
 }
 

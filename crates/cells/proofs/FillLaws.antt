@@ -45,7 +45,7 @@ filled-run fill end p cs cs′ l e =
 -- ---- answers ----
 pub reached-more : (end k l : ℕ) (r : Drawn) → Reached end k r → k ≤ l → Reached end l r
 reached-more end k l (Accepted p n) h i = (h .0, omega arith)
-reached-more end k l (Refused n a) h i = (zero-le, zero-le)
+reached-more end k l (Refused n a f) h i = (h .0, zero-le)
 
 -- ---- fill runs ----
 module _ (n : ℕ) (m : List ℕ) (σ : CodeSettings) (fill : FillMode) (end : ℕ) (d : Drawing) where

@@ -12,7 +12,8 @@ use Rattle.memory.specs.Reading.{Reading, done, _>>=_, each, given, refused, ru
 use Rattle.memory.proofs.Laws.{bind-given, bind-refused, run-done}
 use Rattle.memory.proofs.ReadBounds.{both}
 use Rattle.blocks.specs.declared.Segment.{Segment}
-use Rattle.blocks.specs.RowBlock.{segmentOf, segmentsOf}
+use Rattle.blocks.specs.declared.SegmentCount.{SegmentCount}
+use Rattle.blocks.specs.Answers.{segmentIn, segmentsPast}
 use Rattle.blocks.proofs.BlockLaws.{segments-more, segments-none}
 use Rattle.layout.specs.declared.Side.{Side}
 use Rattle.layout.specs.declared.Side.the-variants.{Whole, Before, After}
@@ -33,29 +34,29 @@ module _ {A B : Type 0} (f : A → B → Reading B) (x : A) (xs : List A) (y : B
   each-chosen true = refl
   each-chosen false = refl
 
-module _ (n : ℕ) (m : List ℕ) (l hidden : Bool) (side : Side) (at left i : ℕ) (ws : List ℕ) where
+module _ (n : ℕ) (m : List ℕ) (l hidden : Bool) (side : Side) (count : SegmentCount) (ws : List ℕ) (at i : ℕ) where
   -- the segment in turn, its width, and the segments after it
   abbrev turn : Segment
-  turn = segmentOf l (drop (5 * i) ws)
+  turn = segmentIn l count ws i
 
   abbrev here : List Segment
-  here = segmentsOn side hidden at (segmentsOf l left (drop (5 * i) ws))
+  here = segmentsOn side hidden at (segmentsPast l count ws i)
 
   abbrev after : List Segment
-  after = segmentsOn side hidden (at + width hidden turn) (segmentsOf l (left - 1) (drop (5 * (i + 1)) ws))
+  after = segmentsOn side hidden (at + width hidden turn) (segmentsPast l count ws (i + 1))
 
-  more : 0 < left → here ≡ (if onSide side at (width hidden turn) then turn ∷ after else after)
+  more : i < count .number → here ≡ (if onSide side at (width hidden turn) then turn ∷ after else after)
   unfolding segmentsOn
-  more h = ap (segmentsOn side hidden at) (segments-more l left i ws h)
+  more h = ap (segmentsOn side hidden at) (segments-more l count ws i h)
 
-  none : left ≡ 0 → here ≡ []
+  none : count .number ≤ i → here ≡ []
   unfolding segmentsOn
-  none h = ap (segmentsOn side hidden at) (segments-none l left i ws h)
+  none h = ap (segmentsOn side hidden at) (segments-none l count ws i h)
 
-  pub side-total : 0 < left → total hidden here ≡ (if onSide side at (width hidden turn) then width hidden turn else 0) + total hidden after
+  pub side-total : i < count .number → total hidden here ≡ (if onSide side at (width hidden turn) then width hidden turn else 0) + total hidden after
   side-total h = ap (total hidden) (more h) ∙ total-chosen hidden turn after (onSide side at (width hidden turn))
 
-  pub side-none-total : left ≡ 0 → total hidden here ≡ 0
+  pub side-none-total : count .number ≤ i → total hidden here ≡ 0
   unfolding total
   side-none-total h = ap (total hidden) (none h)
 
@@ -63,16 +64,16 @@ module _ (n : ℕ) (m : List ℕ) (l hidden : Bool) (side : Side) (at left i : �
     abbrev drawn : Reading B
     drawn = if onSide side at (width hidden turn) then f turn d else done d
 
-    eachOf : 0 < left → each f here d ≡ drawn >>= each f after
+    eachOf : i < count .number → each f here d ≡ drawn >>= each f after
     eachOf h = ap (λ (gs : List Segment). each f gs d) (more h) ∙ each-chosen f turn after d (onSide side at (width hidden turn))
 
-    pub side-given : {k : ℕ} {e : B} → 0 < left → runFrom n m drawn ≡ given k e → runFrom n m (each f here d) ≡ runFrom k m (each f after e)
+    pub side-given : {k : ℕ} {e : B} → i < count .number → runFrom n m drawn ≡ given k e → runFrom n m (each f here d) ≡ runFrom k m (each f after e)
     side-given h e = ap (runFrom n m) (eachOf h) ∙ bind-given n m drawn (each f after) e
 
-    pub side-refused : {x : Fault} → 0 < left → runFrom n m drawn ≡ refused x → runFrom n m (each f here d) ≡ refused x
+    pub side-refused : {x : Fault} → i < count .number → runFrom n m drawn ≡ refused x → runFrom n m (each f here d) ≡ refused x
     side-refused h e = ap (runFrom n m) (eachOf h) ∙ bind-refused n m drawn (each f after) e
 
-    pub side-none : left ≡ 0 → runFrom n m (each f here d) ≡ given n d
+    pub side-none : count .number ≤ i → runFrom n m (each f here d) ≡ given n d
     unfolding each
     side-none h = ap (λ (gs : List Segment). runFrom n m (each f gs d)) (none h) ∙ run-done n m d
 

@@ -26,14 +26,15 @@ abbrev pub finish : Outcome Drawing → Outcome Finished
 finish (given n d) = given n (ofDrawing d)
 finish (refused x) = refused x
 
+-- the answer of `draw_cells`, with the cells it leaves, as an outcome. What the array holds after a refusal is left free.
 abbrev pub finished : CellsDrawn → List ℕ → Outcome Finished
 finished (Cells.Accepted l b n) cs = given n (record { latch = l; latched = b; cells = cs })
 finished (Cells.Refused x) cs = refused x
 
--- drawing went up to a column, with no more words read than said
+-- drawing went up to a column, with no more words read than said; where a refusal's pointer begins is of 32 bits
 abbrev pub Reached : ℕ → ℕ → Drawn → Type 0
 Reached end most (Accepted p n) = (p .column ≡ end) × (n ≤ most)
-Reached end most (Refused n a) = (0 ≤ end) × (0 ≤ most)
+Reached end most (Refused n a f) = (f ≤ 4294967295) × (0 ≤ most)
 
 -- what a plan's checks 10, 11 and 12 give: the widths stay within the row and within the window, whose edges are boundaries
 abbrev pub Inside : Bool → Overlay → Type 0

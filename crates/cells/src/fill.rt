@@ -71,6 +71,7 @@ fn fill_by_word(
                 Drawn::Refused {
                     number: 13,
                     address: next.address,
+                    from: 0,
                 }
             }
         }
@@ -79,6 +80,7 @@ fn fill_by_word(
             Drawn::Refused {
                 number: fault.number,
                 address: fault.address,
+                from: fault.from as u64,
             }
         }
     }

@@ -1,6 +1,7 @@
 // The cells of a row, drawn left to right.
 use blocks::FillMode;
 use blocks::Segment;
+use blocks::SegmentCount;
 use codes::CodeSettings;
 use codes::Drawn;
 use codes::Pen;
@@ -51,7 +52,7 @@ pub fn draw_cells(
     fill: FillMode,
     overlay: OverlayHead,
     back: &[u16; 75],
-    count: u8,
+    count: SegmentCount,
     window: &[u16; 75],
     latch: u16,
     words: u32,
@@ -73,7 +74,17 @@ pub fn draw_cells(
         words,
         cells,
     ) {
-        Drawn::Refused { number, address } => { CellsDrawn::Refused(Fault { number, address }) },
+        Drawn::Refused {
+            number,
+            address,
+            from,
+        } => {
+            CellsDrawn::Refused(Fault {
+                number,
+                address,
+                from: from as u32,
+            })
+        },
         Drawn::Accepted { pen, words: read } => CellsDrawn::Accepted {
             latch: pen.latch,
             latched: pen.latched,
@@ -100,7 +111,7 @@ fn walk_cells(
     fill: FillMode,
     overlay: OverlayHead,
     back: &[u16; 75],
-    count: u8,
+    count: SegmentCount,
     window: &[u16; 75],
     latch: u16,
     words: u32,
@@ -155,9 +166,9 @@ fn draw_around(
     first: usize,
     end: usize,
     back: &[u16; 75],
-    count: u8,
+    count: SegmentCount,
     window: &[u16; 75],
-    n: u8,
+    n: SegmentCount,
     pen: Pen,
     words: u32,
     cells: &mut [u32],
@@ -175,7 +186,15 @@ fn draw_around(
         end: first,
     };
     match draw_run(mem, cells, before_it, back, count, pen, words) {
-        Drawn::Refused { number, address } => Drawn::Refused { number, address },
+        Drawn::Refused {
+            number,
+            address,
+            from,
+        } => Drawn::Refused {
+            number,
+            address,
+            from,
+        },
         Drawn::Accepted {
             pen: before,
             words: read,
@@ -190,9 +209,21 @@ fn draw_around(
                 side: Side::Whole,
                 end,
             };
-            let begun = pens::with_list(memory::Pointer { address: 0 }, before);
+            let null = memory::Pointer {
+                address: 0,
+                from: 0,
+            };
+            let begun = pens::with_list(null, before);
             match draw_run(mem, cells, within, window, n, begun, read) {
-                Drawn::Refused { number, address } => Drawn::Refused { number, address },
+                Drawn::Refused {
+                    number,
+                    address,
+                    from,
+                } => Drawn::Refused {
+                    number,
+                    address,
+                    from,
+                },
                 Drawn::Accepted {
                     pen: after,
                     words: so_far,
@@ -220,7 +251,7 @@ fn draw_run(
     cells: &mut [u32],
     stretch: Stretch,
     segments: &[u16; 75],
-    count: u8,
+    count: SegmentCount,
     pen: Pen,
     words: u32,
 ) -> Drawn
@@ -229,8 +260,17 @@ fn draw_run(
     ensures { λ r. ⌜ Reached (stretch .end) (words + 131000) r ⌝ }
     ensures { λ r. ⌜ drawn r (now (cells .exit)) ≡ runFrom words (now (mem .entry)) (segmentsTo (stretch .settings) (stretch .fill) (stretch .source) (segmentsOn (stretch .side) (stretch .settings .hidden) 0 (segmentsOf (stretch .settings .linear) count (now (segments .entry)))) (stretch .end) (soFar pen (now (cells .entry)))) ⌝ }
 {
-    match draw_side(mem, stretch, segments, count, pen, words, cells) {
-        Drawn::Refused { number, address } => Drawn::Refused { number, address },
+    let begun = pens::anew(pen);
+    match draw_side(mem, stretch, segments, count, begun, words, cells) {
+        Drawn::Refused {
+            number,
+            address,
+            from,
+        } => Drawn::Refused {
+            number,
+            address,
+            from,
+        },
         Drawn::Accepted {
             pen: after,
             words: read,
@@ -251,14 +291,14 @@ fn draw_side(
     mem: &[u16],
     stretch: Stretch,
     segments: &[u16; 75],
-    count: u8,
+    count: SegmentCount,
     pen: Pen,
     words: u32,
     cells: &mut [u32],
 ) -> Drawn
     requires { ⌜ words ≤ 3000000000 ⌝ }
     requires { ⌜ pen .column + total (stretch .settings .hidden) (segmentsOn (stretch .side) (stretch .settings .hidden) 0 (segmentsOf (stretch .settings .linear) count (now segments))) ≤ length (now cells) ⌝ }
-    ensures { λ r. ⌜ Reached (pen .column + total (stretch .settings .hidden) (segmentsOn (stretch .side) (stretch .settings .hidden) 0 (segmentsOf (stretch .settings .linear) count (now (segments .entry))))) (words + 512 * count) r ⌝ }
+    ensures { λ r. ⌜ Reached (pen .column + total (stretch .settings .hidden) (segmentsOn (stretch .side) (stretch .settings .hidden) 0 (segmentsOf (stretch .settings .linear) count (now (segments .entry))))) (words + 512 * count .number) r ⌝ }
     ensures { λ r. ⌜ drawn r (now (cells .exit)) ≡ runFrom words (now (mem .entry)) (each (segment (stretch .settings) (stretch .fill) (stretch .source)) (segmentsOn (stretch .side) (stretch .settings .hidden) 0 (segmentsOf (stretch .settings .linear) count (now (segments .entry)))) (soFar pen (now (cells .entry)))) ⌝ }
 {
     // field by field: copied whole, the settings would stay in one register and be taken apart at each code
@@ -270,22 +310,30 @@ fn draw_side(
     let fill = stretch.fill;
     let source = stretch.source;
     let side = stretch.side;
-    let n = count as usize;
+    let n = count.number as usize;
     let mut current = pen;
     let mut read = words;
     let mut at = 0;
     let mut i = 0;
     while i < n {
-        let g = blocks::segment_at(settings.linear, segments, i);
+        let g = blocks::segment_at(settings.linear, count, segments, i);
         let w = layout::width(settings.hidden, g);
         let chosen = layout::on_side(side, at, w);
         match draw_chosen(mem, settings, fill, source, chosen, g, current, read, cells) {
-            Drawn::Refused { number, address } => return Drawn::Refused { number, address },
+            Drawn::Refused {
+                number,
+                address,
+                from,
+            } => return Drawn::Refused {
+                number,
+                address,
+                from,
+            },
             Drawn::Accepted {
                 pen: after,
                 words: so_far,
             } => {
-                current = after;
+                current = pens::anew(after);
                 read = so_far;
             }
         }
@@ -351,7 +399,15 @@ fn draw_segment(
         words,
         cells,
     ) {
-        Drawn::Refused { number, address } => Drawn::Refused { number, address },
+        Drawn::Refused {
+            number,
+            address,
+            from,
+        } => Drawn::Refused {
+            number,
+            address,
+            from,
+        },
         Drawn::Accepted {
             pen: after,
             words: read,

@@ -12,11 +12,13 @@ use Rattle.codes.specs.Codes.{Drawing, drawing}
 abbrev pub soFar : Pen → List ℕ → Drawing
 soFar p cs = drawing p (take (p .column) cs)
 
+-- the answer of a function that draws, with the cells it leaves, as an outcome. What the array holds past the pen's column, and after a
+-- refusal, is left free.
 abbrev pub drawn : Drawn → List ℕ → Outcome Drawing
 drawn (Accepted p n) cs = given n (soFar p cs)
-drawn (Refused n a) cs = refused (record { number = n; address = a })
+drawn (Refused n a f) cs = refused (record { number = n; address = a; from = f })
 
--- drawing went up to a column at most, with no more words read than said
+-- drawing went up to a column at most, with no more words read than said; where a refusal's pointer begins is of 32 bits
 abbrev pub Within : ℕ → ℕ → Drawn → Type 0
 Within end most (Accepted p n) = (p .column ≤ end) × (n ≤ most)
-Within end most (Refused n a) = (0 ≤ end) × (0 ≤ most)
+Within end most (Refused n a f) = (f ≤ 4294967295) × (0 ≤ most)

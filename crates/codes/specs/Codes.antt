@@ -7,7 +7,7 @@ use lib.Dec.{ltb}
 use Rattle.memory.specs.Word.{if_then_else_, high, low}
 use Rattle.memory.specs.Reading.{Reading, done, word, _>>=_, each}
 use Rattle.memory.specs.declared.Pointer.{Pointer}
-use Rattle.memory.specs.Address.{to, null, onward}
+use Rattle.memory.specs.Address.{nothing, null, onward}
 use Rattle.codes.specs.declared.CodeSettings.{CodeSettings}
 use Rattle.codes.specs.declared.Source.{Source}
 use Rattle.codes.specs.declared.AttributeList.{AttributeList}
@@ -27,7 +27,7 @@ abbrev pub listAt : Pointer → AttributeList
 listAt p = record { present = not (null p); next = p }
 
 abbrev pub noList : AttributeList
-noList = listAt (to 0)
+noList = listAt nothing
 
 -- no cell yet, no list in use, and no word has become the latch
 abbrev pub blank : ℕ → Drawing

@@ -39,9 +39,9 @@ pub struct Pen {
     pub list: AttributeList,
 }
 
-// Where drawing went, with the words read so far; or the fault that it met, in two fields: a struct would lie across the pen's column,
-// and the compiler would then keep both in memory.
+// Where drawing went, with the words read so far; or the fault that it met, in three fields: a struct would lie across the pen's column,
+// and the compiler would then keep both in memory. Where its pointer begins has 64 bits, as the column has, for the same reason.
 pub enum Drawn {
     Accepted { pen: Pen, words: u32 },
-    Refused { number: u8, address: u32 },
+    Refused { number: u8, address: u32, from: u64 },
 }

@@ -10,6 +10,26 @@ ghost use lib.ListN.{length};
 ghost use Rattle.codes.specs.Codes.{listAt, usingList, movedTo, taking, blank, character};
 ghost use Rattle.codes.specs.Answers.{soFar};
 
+// The pen, built from its fields: a copy of the whole struct would carry its padding along.
+pub fn anew(pen: Pen) -> Pen
+    ensures { λ r. ⌜ r ≡ pen ⌝ }
+{
+    let next = Pointer {
+        address: pen.list.next.address,
+        from: pen.list.next.from,
+    };
+    let list = AttributeList {
+        present: pen.list.present,
+        next,
+    };
+    Pen {
+        column: pen.column,
+        latch: pen.latch,
+        latched: pen.latched,
+        list,
+    }
+}
+
 // The pen at another column.
 pub fn moved_to(column: usize, pen: Pen) -> Pen
     ensures { λ r. ⌜ r ≡ movedTo column pen ⌝ }
@@ -52,7 +72,10 @@ pub fn blank(latch: u16) -> Pen
 {
     let list = AttributeList {
         present: false,
-        next: Pointer { address: 0 },
+        next: Pointer {
+            address: 0,
+            from: 0,
+        },
     };
     Pen {
         column: 0,

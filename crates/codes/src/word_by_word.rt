@@ -41,11 +41,20 @@ pub fn draw_word_by_word(
             return Drawn::Refused {
                 number: fault.number,
                 address: fault.address,
+                from: fault.from as u64,
             };
         };
         let n = codes_in_word(left);
         match draw_word(mem, settings, room, w, n, current, read + 1, cells) {
-            Drawn::Refused { number, address } => return Drawn::Refused { number, address },
+            Drawn::Refused {
+                number,
+                address,
+                from,
+            } => return Drawn::Refused {
+                number,
+                address,
+                from,
+            },
             Drawn::Accepted {
                 pen: after,
                 words: so_far,
@@ -84,7 +93,15 @@ fn draw_word(
     while i < n {
         let code = code_at(w, i);
         match examine_code(mem, settings, room, code, current, read, cells) {
-            Drawn::Refused { number, address } => return Drawn::Refused { number, address },
+            Drawn::Refused {
+                number,
+                address,
+                from,
+            } => return Drawn::Refused {
+                number,
+                address,
+                from,
+            },
             Drawn::Accepted {
                 pen: after,
                 words: so_far,
@@ -130,6 +147,7 @@ fn examine_code(
                 Drawn::Refused {
                     number: fault.number,
                     address: fault.address,
+                    from: fault.from as u64,
                 }
             }
         }

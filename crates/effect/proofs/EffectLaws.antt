@@ -12,6 +12,9 @@ use Rattle.settings.specs.declared.Settings.{Settings}
 use Rattle.state.specs.declared.Fields.{Fields}
 use Rattle.state.specs.declared.State.{State}
 use Rattle.plan.specs.Plan.{Plan, plan}
+use Rattle.plan.specs.declared.PlanAnswer.{PlanAnswer}
+use Rattle.plan.specs.declared.PlanAnswer.the-variants as Plans
+use Rattle.plan.specs.Answers.{planAnswer}
 use Rattle.cells.specs.declared.CellsDrawn.{CellsDrawn}
 use Rattle.cells.specs.declared.CellsDrawn.the-variants as Cells
 use Rattle.codes.specs.Codes.{Drawing, blank}
@@ -27,8 +30,8 @@ use Rattle.joining.specs.declared.Part.{Part}
 use Rattle.joining.specs.declared.Part.the-variants.{Keep, Set}
 use Rattle.effect.specs.declared.NextFields.{NextFields}
 use Rattle.effect.specs.declared.NextFields.the-variants.{Reached}
-use Rattle.effect.specs.Effect.{partOf, nextOf, latchWith, outcomeFor, effectCall}
-use Rattle.effect.specs.Answers.{sameParts, partDrawn, nextDrawn}
+use Rattle.effect.specs.Effect.{partOf, nextOf, latchWith, outcomeFor, effectOf, effectCall}
+use Rattle.effect.specs.Answers.{sameParts, partDrawn, nextDrawn, refusedEffect, toldEffect, Told}
 
 module _ (σ : Settings) (m : List ℕ) (f : Fields) where
   pub plan-refused : {x : Fault} → refused x ≡ run m (plan σ f) → (ignore : Bool) → refused x ≡ outcomeFor σ m f ignore
@@ -73,6 +76,23 @@ module _ (σ : Settings) (m : List ℕ) (f : Fields) where
 
     pub latched-effect : (w : ℕ) → AsDrawn (codeSettings σ) m (f .fill) (p .overlay) (p .segments) (Latched w) → sameParts (Set w) (p .next) ≡ effectCall σ m f
     latched-effect w h = same (Set w) (λ ignore. row-ends (Latched w) ignore (h n (latchWith ignore)))
+
+-- the effect of a row by what is told of its latch, or by its plan's refusal
+module _ (σ : Settings) (m : List ℕ) (f : Fields) where
+  pub refused-effect : {x : Fault} → refused x ≡ run m (plan σ f) → refusedEffect f x ≡ effectCall σ m f
+  unfolding effectCall
+  refused-effect e = ap₂ (effectOf f) (plan-refused σ m f e false) (plan-refused σ m f e true)
+
+  module _ (back window : List ℕ) where
+    pub told-kept : (a : PlanAnswer) → planAnswer (σ .linear) a back window ≡ run m (plan σ f) → Told σ m f back window a Kept
+        → toldEffect f Keep a ≡ effectCall σ m f
+    told-kept (Plans.Planned p) e h = kept-effect σ m f e h
+    told-kept (Plans.Refused x) e h = refused-effect e
+
+    pub told-latched : (w : ℕ) (a : PlanAnswer) → planAnswer (σ .linear) a back window ≡ run m (plan σ f) → Told σ m f back window a (Latched w)
+        → toldEffect f (Set w) a ≡ effectCall σ m f
+    told-latched w (Plans.Planned p) e h = latched-effect σ m f e w h
+    told-latched w (Plans.Refused x) e h = refused-effect e
 
 -- what the cells of a planned row tell is the row's
 module _ (σ : Settings) (m : List ℕ) (s : State) {n : ℕ} {p : Plan} (e : given n p ≡ run m (plan σ (s .fields))) where

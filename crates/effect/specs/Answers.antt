@@ -1,7 +1,17 @@
 -- What the functions of this crate give, as what the rules give: no rules of their own.
+use mathlib.Core.List.{List}
+use Prim.Native.Nat.{ℕ}
 use Rattle.memory.specs.Word.{if_then_else_}
 use Rattle.memory.specs.Reading.{refusal}
+use Rattle.memory.specs.declared.Fault.{Fault}
+use Rattle.settings.specs.declared.Settings.{Settings}
 use Rattle.state.specs.declared.Fields.{Fields}
+use Rattle.plan.specs.declared.PlanAnswer.{PlanAnswer}
+use Rattle.plan.specs.declared.PlanAnswer.the-variants as Plans
+use Rattle.plan.specs.Answers.{planOf}
+use Rattle.row.specs.Row.{codeSettings}
+use Rattle.latch.specs.declared.LatchEffect.{LatchEffect}
+use Rattle.latch.specs.Latch.{AsDrawn}
 use Rattle.cells.specs.declared.CellsDrawn.{CellsDrawn}
 use Rattle.cells.specs.declared.CellsDrawn.the-variants as Cells
 use Rattle.joining.specs.declared.Part.{Part}
@@ -28,3 +38,18 @@ effectDrawn f reached clear set = record {
   effect = record { clear = partDrawn f clear; set = partDrawn f set };
   next = nextDrawn reached clear (nextDrawn reached set Unreached);
 }
+
+-- the answer of a row whose plan is refused, and of one whose latch is told
+abbrev pub refusedEffect : Fields → Fault → EffectAnswer
+refusedEffect f x = effectDrawn f f (Cells.Refused x) (Cells.Refused x)
+
+abbrev pub toldEffect : Fields → Part → PlanAnswer → EffectAnswer
+toldEffect f part (Plans.Planned p) = sameParts part (p .next)
+toldEffect f part (Plans.Refused x) = refusedEffect f x
+
+-- what is told of the latch of a planned row is as its cells would be drawn
+abbrev pub Told : Settings → List ℕ → Fields → List ℕ → List ℕ → PlanAnswer → LatchEffect → Type 0
+Told σ m f back window (Plans.Planned p) r =
+    let plan = planOf (σ .linear) p back window in
+    AsDrawn (codeSettings σ) m (f .fill) (plan .overlay) (plan .segments) r
+Told σ m f back window (Plans.Refused x) r = Unit {0}

@@ -3,6 +3,7 @@ use cells::CellsDrawn;
 use joining::Effect;
 use joining::Part;
 use latch::LatchEffect;
+use memory::Fault;
 use plan::PlanAnswer;
 use plan::PlanHead;
 use settings::Settings;
@@ -15,7 +16,7 @@ ghost use Rattle.state.specs.State.{stateOf};
 ghost use Rattle.row.specs.Row.{row};
 ghost use Rattle.effect.specs.declared.NextFields.{NextFields};
 ghost use Rattle.effect.specs.Effect.{partOf, nextOf, effectCall};
-ghost use Rattle.effect.specs.Answers.{sameParts, partDrawn, nextDrawn, effectDrawn};
+ghost use Rattle.effect.specs.Answers.{sameParts, partDrawn, nextDrawn, effectDrawn, refusedEffect, toldEffect, Told};
 
 // The next state's fields other than the latch, or that both parts refuse.
 pub enum NextFields {
@@ -30,28 +31,67 @@ pub struct EffectAnswer {
 }
 
 // The effect of a row, with the next state's fields: its plan once, and then what becomes of the latch, told without its cells.
-// Where that is unclear, the row is drawn.
+// Where that is unclear, the row is drawn. The plan's answer is handed on whole, so that the next fields are taken from it last.
 pub fn row_effect(settings: Settings, mem: &[u16], fields: Fields) -> EffectAnswer
     ensures { λ r. ⌜ r ≡ effectCall settings (now (mem .entry)) fields ⌝ }
 {
     let mut back = [0u16; 75];
     let mut window = [0u16; 75];
-    match plan::plan_row(mem, settings, fields, &mut back, &mut window) {
-        PlanAnswer::Refused(fault) => {
-            let refused = CellsDrawn::Refused(fault);
-            effect_of(fields, fields, refused, refused)
-        }
+    let answer = plan::plan_row(mem, settings, fields, &mut back, &mut window);
+    match latch_told(settings, mem, fields, answer, &back, &window) {
+        LatchEffect::Kept => told_effect(fields, Part::Keep, answer),
+        LatchEffect::Latched(w) => told_effect(fields, Part::Set(w), answer),
+        LatchEffect::Unclear => match answer {
+            PlanAnswer::Refused(fault) => refused_effect(fields, fault),
+            PlanAnswer::Planned(p) => drawn_effect(settings, mem, fields, p, &back, &window),
+        },
+    }
+}
+
+// What becomes of the latch, by a row's plan; nothing is told where that is refused. The arms are named, for the tag and the word of
+// what is told are not to be read in one piece.
+fn latch_told(
+    settings: Settings,
+    mem: &[u16],
+    fields: Fields,
+    answer: PlanAnswer,
+    back: &[u16; 75],
+    window: &[u16; 75],
+) -> LatchEffect
+    ensures { λ r. ⌜ Told settings (now (mem .entry)) fields (now (back .entry)) (now (window .entry)) answer r ⌝ }
+{
+    match answer {
+        PlanAnswer::Refused(_) => LatchEffect::Unclear,
         PlanAnswer::Planned(p) => {
             let fill = fields.fill;
             let overlay = p.overlay;
+            let count = p.count;
             let code = row::code_settings(settings);
-            match latch::row_latch(mem, code, fill, overlay, &back, p.count, &window) {
-                LatchEffect::Kept => same_parts(Part::Keep, p),
-                LatchEffect::Latched(w) => same_parts(Part::Set(w), p),
-                LatchEffect::Unclear => drawn_effect(settings, mem, fields, p, &back, &window),
+            match latch::row_latch(mem, code, fill, overlay, back, count, window) {
+                LatchEffect::Kept => LatchEffect::Kept,
+                LatchEffect::Latched(w) => LatchEffect::Latched(w),
+                LatchEffect::Unclear => LatchEffect::Unclear,
             }
         }
     }
+}
+
+// The answer where the latch is told: the same part with ignore clear and with it set, or the plan's refusal.
+fn told_effect(fields: Fields, part: Part, answer: PlanAnswer) -> EffectAnswer
+    ensures { λ r. ⌜ r ≡ toldEffect fields part answer ⌝ }
+{
+    match answer {
+        PlanAnswer::Refused(fault) => refused_effect(fields, fault),
+        PlanAnswer::Planned(p) => same_parts(part, p),
+    }
+}
+
+// The answer for a row whose plan is refused, for either latch.
+fn refused_effect(fields: Fields, fault: Fault) -> EffectAnswer
+    ensures { λ r. ⌜ r ≡ refusedEffect fields fault ⌝ }
+{
+    let refused = CellsDrawn::Refused(fault);
+    effect_of(fields, fields, refused, refused)
 }
 
 // The answer for a planned row that has the same part with ignore clear and with it set.
@@ -103,6 +143,7 @@ fn draw_from(
 {
     let fill = fields.fill;
     let overlay = p.overlay;
+    let count = p.count;
     let code = row::code_settings(settings);
     let mut cells = [0u32; 132];
     cells::draw_cells(
@@ -111,7 +152,7 @@ fn draw_from(
         fill,
         overlay,
         back,
-        p.count,
+        count,
         window,
         latch,
         p.words,

@@ -21,21 +21,21 @@ pub fn next_effect(
     state: &mut [u32],
     effect: &mut [u32],
 ) -> u8
-    requires { ⌜ (length (now state) ≡ 20) × (length (now effect) ≡ 10) ⌝ }
+    requires { ⌜ (length (now state) ≡ 23) × (length (now effect) ≡ 12) ⌝ }
     ensures { λ r. ⌜ stated r (now (state .exit)) (now (effect .exit)) ≡ afterEffect (from .latch) (now (state .entry)) (effectCall settings (now (memory .entry)) (from .fields)) ⌝ }
 {
     let fields = from.fields;
     let answer = effect::row_effect(settings, memory, fields);
     let e = answer.effect;
     let next = answer.next;
-    encode::write_effect(e, effect);
     step(from.latch, next, state);
+    encode::write_effect(e, effect);
     0
 }
 
 // The next state's fields, where the effect came with them.
 fn step(latch: u16, next: NextFields, state: &mut [u32])
-    requires { ⌜ length (now state) ≡ 20 ⌝ }
+    requires { ⌜ length (now state) ≡ 23 ⌝ }
     ensures { λ _. ⌜ now (state .exit) ≡ stepped latch (now (state .entry)) next ⌝ }
 {
     if let NextFields::Reached(fields) = next {
@@ -44,7 +44,7 @@ fn step(latch: u16, next: NextFields, state: &mut [u32])
 }
 
 pub fn applied(effect: Effect, latch: u16, answer: &mut [u32]) -> u8
-    requires { ⌜ length (now answer) ≡ 3 ⌝ }
+    requires { ⌜ length (now answer) ≡ 4 ⌝ }
     ensures { λ r. ⌜ answered r (now (answer .exit)) ≡ afterApply (now (answer .entry)) (apply effect latch) ⌝ }
 {
     match effect.apply(latch) {

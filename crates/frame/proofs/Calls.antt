@@ -73,7 +73,7 @@ module _ (σ : Settings) (m : List ℕ) (w : Words m) where
   pub made-next : {p q : Progress} {r : DrawnRow} → Made p → Advanced p r q → Made q
   made-next {p} {q} {r} h k =
       let words = ap (λ (q : Progress). q .words) (k .next) in
-      omega (arith, k .few, k .numbered)
+      omega (arith, k .few, k .within, k .numbered, k .fewer)
 
   -- the frame by a step of its caller
   frame-by : (p : Progress) → Made p → (b : List ℕ) → length b ≡ 132 → {x : StepAnswer} {cells : List ℕ}

@@ -52,10 +52,10 @@ step σ m p buffer =
     then stepped (Ended (p .state .fields .row) (p .words)) buffer
     else stepped (rowStep p (c .answer)) (c .buffer)
 
--- "a row reads fewer than 12,000", and so does a start: a bound on the words that a frame has read before row n. A frame in progress that
--- no start and rows make may have any count: one above the bound counts as the bound.
+-- "a row reads fewer than 12,000", and so does a start: a bound on the words that a frame has read before row n, which is 4095 at most. A
+-- frame in progress that no start and rows make may have any count: one above the bound counts as the bound.
 abbrev pub wordsBound : ℕ → ℕ
-wordsBound n = 12000 * (n + 1)
+wordsBound n = 12000 * (min n 4095 + 1)
 
 abbrev pub inBound : Progress → Progress
 inBound p = record { state = p .state; words = min (p .words) (wordsBound (p .state .fields .row)) }

@@ -26,7 +26,7 @@ pub enum BeginAnswer {
 // ends the frame.
 pub enum StepAnswer {
     Drawn { row: DrawnRow, progress: Progress },
-    Ended { rows: u16, words: u32 },
+    Ended { rows: u32, words: u32 },
     Refused(Refusal),
 }
 
@@ -86,10 +86,17 @@ pub fn handed_on(latch: u16, state: State) -> u16
 }
 
 // A count of words that a frame can have before a row, so that a row's words can be added.
-fn bound_words(words: u32, row: u16) -> u32
+fn bound_words(words: u32, row: u32) -> u32
     ensures { λ r. ⌜ r ≡ min words (wordsBound row) ⌝ }
-    ensures { λ r. ⌜ r ≤ 786432000 ⌝ }
+    ensures { λ r. ⌜ r ≤ 49152000 ⌝ }
 {
-    let bound = 12000 * (row as u32 + 1);
-    if words < bound { words } else { bound }
+    let bound = 12000 * (least(row, 4095) + 1);
+    least(words, bound)
+}
+
+// The smaller of two numbers.
+fn least(a: u32, b: u32) -> u32
+    ensures { λ r. ⌜ r ≡ min a b ⌝ }
+{
+    if a < b { a } else { b }
 }

@@ -2,13 +2,14 @@
 use mathlib.Core.Path.{_≡_, refl, ap, sym, _∙_}
 use mathlib.Core.List.{List, _∷_}
 use mathlib.Core.Bool.{Bool, true, false}
-use Prim.Native.Nat.{ℕ, suc, _+_, _-_, _*_, _<_}
+use Prim.Native.Nat.{ℕ, suc, _+_, _-_, _*_, _<_, _≤_}
 use native.Mathlib.Omega.{arith}
 use lib.ListN.{getD, drop}
 use Rattle.memory.specs.Word.{if_then_else_, high, low}
 use Rattle.codes.specs.declared.CodeSettings.{CodeSettings}
 use Rattle.blocks.specs.declared.Segment.{Segment}
-use Rattle.blocks.specs.RowBlock.{segmentOf, segmentsOf}
+use Rattle.blocks.specs.declared.SegmentCount.{SegmentCount}
+use Rattle.blocks.specs.Answers.{segmentIn, segmentsPast}
 use Rattle.blocks.proofs.BlockLaws.{segments-more, segments-none}
 use Rattle.layout.specs.declared.Side.{Side}
 use Rattle.layout.specs.Layout.{width, onSide, segmentsOn}
@@ -32,32 +33,32 @@ join-assoc (Latched w) (Latched v) (Latched u) = refl
 join-assoc (Latched w) (Latched v) Unclear = refl
 
 -- the segments on a side, from segment i on: the one in turn, where it is chosen, and those after it; none
-module _ (σ : CodeSettings) (m : List ℕ) (side : Side) (at left i : ℕ) (ws : List ℕ) where
+module _ (σ : CodeSettings) (m : List ℕ) (side : Side) (count : SegmentCount) (ws : List ℕ) (at i : ℕ) where
   abbrev turn : Segment
-  turn = segmentOf (σ .linear) (drop (5 * i) ws)
+  turn = segmentIn (σ .linear) count ws i
 
   abbrev chosen : Bool
   chosen = onSide side at (width (σ .hidden) turn)
 
   abbrev after : List Segment
-  after = segmentsOn side (σ .hidden) (at + width (σ .hidden) turn) (segmentsOf (σ .linear) (left - 1) (drop (5 * (i + 1)) ws))
+  after = segmentsOn side (σ .hidden) (at + width (σ .hidden) turn) (segmentsPast (σ .linear) count ws (i + 1))
 
   abbrev over : List Segment → LatchEffect
   over gs = overSegments σ m (segmentsOn side (σ .hidden) at gs)
 
   module _ (f : LatchEffect) where
-    pub side-more : 0 < left
-        → join f (over (segmentsOf (σ .linear) left (drop (5 * i) ws))) ≡ join (join f (if chosen then overSegment σ m turn else Kept)) (overSegments σ m after)
+    pub side-more : i < count .number
+        → join f (over (segmentsPast (σ .linear) count ws i)) ≡ join (join f (if chosen then overSegment σ m turn else Kept)) (overSegments σ m after)
     unfolding segmentsOn overSegments
-    side-more h = ap (λ (gs : List Segment). join f (over gs)) (segments-more (σ .linear) left i ws h) ∙ by chosen
+    side-more h = ap (λ (gs : List Segment). join f (over gs)) (segments-more (σ .linear) count ws i h) ∙ by chosen
       where
         by : (b : Bool) → join f (overSegments σ m (if b then turn ∷ after else after)) ≡ join (join f (if b then overSegment σ m turn else Kept)) (overSegments σ m after)
         by true = sym (join-assoc f (overSegment σ m turn) (overSegments σ m after))
         by false = rw (join-kept f)
 
-    pub side-none : left ≡ 0 → join f (over (segmentsOf (σ .linear) left (drop (5 * i) ws))) ≡ f
+    pub side-none : count .number ≤ i → join f (over (segmentsPast (σ .linear) count ws i)) ≡ f
     unfolding segmentsOn overSegments
-    side-none h = ap (λ (gs : List Segment). join f (over gs)) (segments-none (σ .linear) left i ws h) ∙ join-kept f
+    side-none h = ap (λ (gs : List Segment). join f (over gs)) (segments-none (σ .linear) count ws i h) ∙ join-kept f
 
 -- codes, two to a word; the last of an odd count; none
 module _ (flag : ℕ) (m : List ℕ) (at left : ℕ) where

@@ -1,6 +1,7 @@
 // What a row does to the latch, told without cells, where no fill run takes a word and every word is there.
 use blocks::FillMode;
 use blocks::Segment;
+use blocks::SegmentCount;
 use codes::CodeSettings;
 use layout::OverlayHead;
 use layout::Side;
@@ -28,7 +29,7 @@ pub fn row_latch(
     fill: FillMode,
     overlay: OverlayHead,
     back: &[u16; 75],
-    count: u8,
+    count: SegmentCount,
     window: &[u16; 75],
 ) -> LatchEffect
     ensures { λ r. ⌜ r ≡ overRow settings (now (mem .entry)) fill (overlayOf (settings .linear) overlay (now (window .entry))) (segmentsOf (settings .linear) count (now (back .entry))) ⌝ }
@@ -61,17 +62,17 @@ fn side_latch(
     settings: CodeSettings,
     side: Side,
     segments: &[u16; 75],
-    count: u8,
+    count: SegmentCount,
     before: LatchEffect,
 ) -> LatchEffect
     ensures { λ r. ⌜ r ≡ join before (overSegments settings (now (mem .entry)) (segmentsOn side (settings .hidden) 0 (segmentsOf (settings .linear) count (now (segments .entry))))) ⌝ }
 {
-    let n = count as usize;
+    let n = count.number as usize;
     let mut made = before;
     let mut at = 0;
     let mut i = 0;
     while i < n {
-        let g = blocks::segment_at(settings.linear, segments, i);
+        let g = blocks::segment_at(settings.linear, count, segments, i);
         let w = layout::width(settings.hidden, g);
         let chosen = layout::on_side(side, at, w);
         made = join(made, chosen_latch(mem, settings, chosen, g));

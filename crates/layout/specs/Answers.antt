@@ -22,7 +22,8 @@ abbrev pub overlayOf : Bool → OverlayHead → List ℕ → Overlay
 overlayOf linear NoOverlay ws = none
 overlayOf linear (Over number first end count) ws = over number first end (segmentsOf linear count ws)
 
--- the answer of `overlay_row`, with the words of the window's segments, as an outcome
+-- the answer of `overlay_row`, with the words of the window's segments, as an outcome. What these words are past the segments counted,
+-- with no window on the row, and after a refusal, is left free.
 abbrev pub overlayRead : Bool → OverlayRead → List ℕ → Outcome Overlaid
 overlayRead linear (On.Read o window n) ws = given n (record { overlay = overlayOf linear o ws; window = window })
 overlayRead linear (On.Refused x) ws = refused x

@@ -1,5 +1,6 @@
 // The segments of a row, from their words: widths, boundaries, and the side of a window that they are on.
 use blocks::Segment;
+use blocks::SegmentCount;
 ghost use mathlib.Core.Path.{_≡_};
 ghost use Rattle.blocks.specs.RowBlock.{segmentsOf};
 ghost use Rattle.layout.specs.Layout.{width, fits, boundary, covered, onSide};
@@ -22,7 +23,7 @@ pub enum OverlayHead {
         number: u8,
         first: usize,
         end: usize,
-        count: u8,
+        count: SegmentCount,
     },
 }
 
@@ -73,15 +74,20 @@ fn fits(g: Segment) -> bool
 }
 
 // Check 9 and the widths' sum of `count` segments.
-pub fn measure_segments(linear: bool, hidden: bool, words: &[u16; 75], count: u8) -> Measure
+pub fn measure_segments(
+    linear: bool,
+    hidden: bool,
+    words: &[u16; 75],
+    count: SegmentCount,
+) -> Measure
     ensures { λ r. ⌜ r ≡ measured hidden (segmentsOf linear count (now (words .entry))) ⌝ }
 {
-    let n = count as usize;
+    let n = count.number as usize;
     let mut fit = true;
     let mut sum = 0;
     let mut i = 0;
     while i < n {
-        let g = blocks::segment_at(linear, words, i);
+        let g = blocks::segment_at(linear, count, words, i);
         fit = fit & fits(g);
         sum += width(hidden, g);
         i += 1;
@@ -90,17 +96,23 @@ pub fn measure_segments(linear: bool, hidden: bool, words: &[u16; 75], count: u8
 }
 
 // Is a place a boundary of `count` segments?
-pub fn is_boundary(linear: bool, hidden: bool, words: &[u16; 75], count: u8, place: usize) -> bool
+pub fn is_boundary(
+    linear: bool,
+    hidden: bool,
+    words: &[u16; 75],
+    count: SegmentCount,
+    place: usize,
+) -> bool
     ensures { λ r. ⌜ r ≡ boundary hidden 0 (segmentsOf linear count (now (words .entry))) place ⌝ }
 {
-    let n = count as usize;
+    let n = count.number as usize;
     let mut at = 0;
     let mut i = 0;
     while i < n {
         if at == place {
             return true;
         }
-        at += width(hidden, blocks::segment_at(linear, words, i));
+        at += width(hidden, blocks::segment_at(linear, count, words, i));
         i += 1;
     }
     at <= place

@@ -1,6 +1,7 @@
 // The window on a row.
 use crate::OverlayHead;
 use blocks::BlockRead;
+use blocks::SegmentCount;
 use memory::Fault;
 use memory::Pointer;
 use settings::Settings;
@@ -32,7 +33,7 @@ pub enum OverlayRead {
 pub fn overlay_row(
     mem: &[u16],
     settings: Settings,
-    row: u16,
+    row: u32,
     in_hand: WindowInHand,
     over: &mut [u16; 75],
 ) -> OverlayRead
@@ -65,7 +66,7 @@ pub fn edges_fit(
     hidden: bool,
     overlay: OverlayHead,
     back: &[u16; 75],
-    count: u8,
+    count: SegmentCount,
 ) -> bool
     ensures { λ r. ⌜ ((ws : List ℕ) → r ≡ edgesFit hidden (overlayOf linear overlay ws) (segmentsOf linear count (now (back .entry)))) ⌝ }
 {
@@ -84,10 +85,10 @@ pub fn edges_fit(
 }
 
 // Is the row one of the window's?
-fn on_rows(b: WindowBlock, row: u16) -> bool
+fn on_rows(b: WindowBlock, row: u32) -> bool
     ensures { λ r. ⌜ r ≡ leb (b .top) row && leb row (b .bottom) ⌝ }
 {
-    (b.top as u16 <= row) & (row <= b.bottom as u16)
+    (b.top as u32 <= row) & (row <= b.bottom as u32)
 }
 
 // The window's row block; then checks 9 and 11 on its segments.
@@ -97,7 +98,8 @@ fn window_row(mem: &[u16], settings: Settings, w: Window, over: &mut [u16; 75]) 
     let rows = w.rows;
     match blocks::window_row_block(mem, settings.linear, rows, over) {
         BlockRead::Read(b) => {
-            let m = crate::measure_segments(settings.linear, settings.hidden, over, b.count);
+            let count = b.count;
+            let m = crate::measure_segments(settings.linear, settings.hidden, over, count);
             if !m.fit {
                 return OverlayRead::Refused(memory::fault_of(9));
             }
@@ -109,7 +111,7 @@ fn window_row(mem: &[u16], settings: Settings, w: Window, over: &mut [u16; 75]) 
                 number: w.block.number,
                 first: w.block.left as usize,
                 end: w.block.right as usize + 1,
-                count: b.count,
+                count,
             };
             let link = b.link;
             let window = WindowInHand::Present(with_rows(link, w));

@@ -67,9 +67,13 @@ shownCells σ cells = take (shownColumns σ) cells
 unfoldable pub endLine : ℕ → ℕ → List ℕ
 endLine rows words = text "end rows " ++ decimal rows ++ text " words " ++ decimal words ++ text "\n"
 
--- "A refusal prints `refused N row R at AAAAAA`"
+-- "A refusal prints `refused N row R at AAAAAA`". 02: the line "gains ` from AAAAAA` at the end, for refusal 7 only"
+abbrev pub origin : Refusal → List ℕ
+origin r = if eqb (r .number) 7 then text " from " ++ hex 6 (r .from) else []
+
 unfoldable pub refusalLine : Refusal → List ℕ
-refusalLine r = text "refused " ++ decimal (r .number) ++ text " row " ++ decimal (r .row) ++ text " at " ++ hex 6 (r .address) ++ text "\n"
+refusalLine r =
+    text "refused " ++ decimal (r .number) ++ text " row " ++ decimal (r .row) ++ text " at " ++ hex 6 (r .address) ++ origin r ++ text "\n"
 
 -- "prints `refused script at N`"
 unfoldable pub scriptLine : ℕ → List ℕ

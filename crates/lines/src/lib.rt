@@ -7,7 +7,7 @@ ghost use mathlib.Core.List.{_++_};
 ghost use Prim.Native.Nat.{_+_, _≤_, _<_, min};
 ghost use lib.ListN.{length, take, drop};
 ghost use Rattle.settings.specs.Good.{shownColumns};
-ghost use Rattle.lines.specs.Lines.{text, digit as Lines·digit, digits, hex, fewest, decimal, Line, rowLine, cellLine, shownCells, endLine, refusalLine, scriptLine};
+ghost use Rattle.lines.specs.Lines.{text, digit as Lines·digit, digits, hex, fewest, decimal, Line, rowLine, cellLine, shownCells, endLine, origin, refusalLine, scriptLine};
 
 // The lines of a row: one with its number, lines, row attributes and words, and one with its shown cells.
 pub fn row_lines(
@@ -38,6 +38,7 @@ pub fn refusal_line(refusal: Refusal, out: &mut [u8; 2048]) -> usize
     let mut at = put_number(out, 0, b"refused ", refusal.number as u64);
     at = put_number(out, at, b" row ", refusal.row as u64);
     at = put_hex(out, at, b" at ", 6, refusal.address);
+    at = put_origin(out, at, refusal);
     put_end(out, at)
 }
 
@@ -68,6 +69,18 @@ pub fn put_end(out: &mut [u8], at: usize) -> usize
     ensures { λ r. ⌜ Line (take at (now (out .entry)) ++ text "\n") r (now (out .exit)) ⌝ }
 {
     put(out, at, b"\n")
+}
+
+// Where the pointer in use begins, of refusal 7.
+fn put_origin(out: &mut [u8], at: usize, refusal: Refusal) -> usize
+    requires { ⌜ at + 12 ≤ length (now out) ⌝ }
+    ensures { λ r. ⌜ (r ≤ at + 12) × (take r (now (out .exit)) ≡ take at (now (out .entry)) ++ origin refusal) ⌝ }
+{
+    if refusal.number == 7 {
+        put_hex(out, at, b" from ", 6, refusal.from)
+    } else {
+        at
+    }
 }
 
 // The first line of a row.

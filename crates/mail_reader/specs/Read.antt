@@ -22,7 +22,7 @@ readBack answer buffer = record { answer = answer; buffer = buffer }
 
 -- the offset is told as the address; the row is 0
 abbrev pub notOfThisForm : ℕ → Fault
-notOfThisForm offset = record { number = 24; address = offset }
+notOfThisForm offset = record { number = 24; address = offset; from = 0 }
 
 abbrev pub answered : List ℕ → Outcome → ReadBack
 answered buffer (row cells) =

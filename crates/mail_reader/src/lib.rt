@@ -41,6 +41,7 @@ pub fn read_mail(text: &[u8], cells: &mut [u16]) -> ReadAnswer
             Fault {
                 number: 24,
                 address: offset as u32,
+                from: 0,
             },
         )),
         RowRead::Cells(count) => {

@@ -24,7 +24,7 @@ use Rattle.settings.specs.Timing.{clocks, halfLines, timing, linesIn, linesForR
 use Rattle.windows.specs.declared.WindowInHand.{WindowInHand}
 use Rattle.windows.specs.declared.WindowInHand.the-variants.{Absent, Present}
 use Rattle.blocks.specs.Main.{mainBlock, mainBlockAt}
-use Rattle.blocks.specs.RowBlock.{segmentOf, segmentsOf, restOfBlock, blockAt, rowBlockAt, windowRowAt, formatOf, redefined}
+use Rattle.blocks.specs.RowBlock.{segmentOf, segmentsAt, restOfBlock, blockAt, rowBlockAt, windowRowAt, formatOf, redefined}
 use Rattle.windows.specs.Window as W
 use Rattle.state.specs.declared.Fields.{Fields}
 use Rattle.state.specs.declared.State.{State}
@@ -60,10 +60,10 @@ pub every : List Bool → Bool
 every [] = true
 every (b ∷ bs) = b && every bs
 
--- an accepted row's number, lines, row attributes, CURS, CURE, words and cells; a refused row's number, row and address
+-- an accepted row's number, lines, row attributes, CURS, CURE, words and cells; a refused row's number, row and addresses
 shownAs : RowAnswer → List ℕ → List ℕ
 shownAs (Answer.Accepted r) cs = r .number ∷ r .lines ∷ r .format .attributes ∷ r .format .curs ∷ r .format .cure ∷ r .words ∷ cs
-shownAs (Answer.Refused r) cs = r .number ∷ r .row ∷ r .address ∷ []
+shownAs (Answer.Refused r) cs = r .number ∷ r .row ∷ r .address ∷ r .from ∷ []
 
 shown : Called → List ℕ
 shown c = shownAs (c .answer) (c .buffer)
@@ -72,11 +72,11 @@ shown c = shownAs (c .answer) (c .buffer)
 cellsFrom : ℕ → ℕ → Called → List ℕ
 cellsFrom column n c = take n (drop column (c .buffer))
 
--- keep: nothing; set: the word; refuse: number, row and address
+-- keep: nothing; set: the word; refuse: number, row and addresses
 partShown : Part → List ℕ
 partShown Keep = []
 partShown (Set w) = w ∷ []
-partShown (Refuse r) = r .number ∷ r .row ∷ r .address ∷ []
+partShown (Refuse r) = r .number ∷ r .row ∷ r .address ∷ r .from ∷ []
 
 -- sync, back porch, active, front porch, field
 counts : Timing → List ℕ
@@ -130,7 +130,7 @@ stateAt latch attributes left row w = S.stateOf latch (record {
   cursor = record { x = 0; y = 0 };
   fill = record { code = 0x20; flag = false };
   format = record { lines = 8; attributes = attributes; curs = 0; cure = 31 };
-  next = to 0x20;
+  next = to 0 0x20;
   window = w;
 })
 
@@ -192,6 +192,10 @@ two v = page 0x20 (0 ∷ 0 ∷ 2 ∷ 0 ∷ 0 ∷ 0 ∷ 0 ∷ 100 ∷ 0 ∷ 0 ∷
 plain : Settings
 plain = settings false false 0x8080 0
 
+-- two segments after a null redefinition pointer, the second with a code that invokes, and its list outside memory
+listless : List ℕ
+listless = page 0x20 (0 ∷ 0 ∷ 0x8002 ∷ 0 ∷ 0 ∷ 0 ∷ 0 ∷ 0 ∷ 0 ∷ 1 ∷ 0 ∷ 0x60 ∷ 0 ∷ 0x8000 ∷ 0x101 ∷ []) (0x8000 ∷ []) []
+
 -- VSW 5, VSD 33, VAL 513, VTOT 518
 timed : Edition → Interlace → ℕ → ℕ → Settings
 timed edition mode flag htd = record {
@@ -232,7 +236,7 @@ twelve = page 0 (0 ∷ 0 ∷ 0 ∷ 0 ∷ 0x303 ∷ 5 ∷ []) [] []
 -- a window of this number on the rows n..n, columns 0 to right, whose next row block and next block are at these addresses
 numbered : ℕ → ℕ → ℕ → ℕ → ℕ → WindowInHand
 numbered number n right rows link =
-    Present (record { block = record { number = number; top = n; bottom = n; left = 0; right = right; link = to link }; rows = to rows })
+    Present (record { block = record { number = number; top = n; bottom = n; left = 0; right = right; link = to 0 link }; rows = to 0 rows })
 
 -- the first window, without segments
 windowOn : ℕ → ℕ → ℕ → WindowInHand
@@ -260,7 +264,7 @@ tests =
     -- P3, and the wrap at FFFFFE
     ∷ eqb (nextWord true 0xFFFE) 0x10000 ∷ eqb (nextWord false 0xFFFE) 0 ∷ eqb (nextWord true 0xFFFFFE) 0
     -- P4
-    ∷ eqb (pointer false 0x0123 0 .address) 0x10000 ∷ eqb (pointer true 0x0123 0 .address) 0x230000
+    ∷ eqb (pointer false 0 0x0123 0 .address) 0x10000 ∷ eqb (pointer true 0 0x0123 0 .address) 0x230000
     -- the start of S
     ∷ eqb (wordsOfStart (startCall 0 sheetS memoryS)) 7
     -- P5
@@ -268,7 +272,7 @@ tests =
     -- P6
     ∷ same (shown row1) (1 ∷ 8 ∷ 0 ∷ 0 ∷ 31 ∷ 3 ∷ replicate 132 0x220)
     -- S has two rows: then no lines are left
-    ∷ same (shown (rowCall sheetS memoryS (stateAfter (row1 .answer)) buffer)) (4 ∷ 2 ∷ 0 ∷ [])
+    ∷ same (shown (rowCall sheetS memoryS (stateAfter (row1 .answer)) buffer)) (4 ∷ 2 ∷ 0 ∷ 0 ∷ [])
     -- 02: S hands on 8002, and the characters of its second frame have that underline; from a refused frame 1 is handed on as it was
     ∷ eqb (handedOn 0 (frame 0 sheetS memoryS)) 0x8002
     ∷ same (cellsFrom 0 4 (rowCall sheetS memoryS (stateOfStart (startCall 0x8002 sheetS memoryS)) buffer)) (0x100241 ∷ 0x500242 ∷ 0x100281 ∷ 0x220 ∷ [])
@@ -286,7 +290,7 @@ tests =
     ∷ same (times 0 (sheetCall (timed Z8052 Video 0x8081 5))) (2 ∷ []) ∷ same (times 0 (sheetCall (timed Z8052 Progressive 0x8081 5))) (2 ∷ [])
     ∷ good (timed Am8052 Video 0x8081 5) ∷ good (timed Z8052 Video 0x8180 5)
     -- 02: an even HTD when interlaced is 2 in the second edition, in a row too; it is good in mode none and in the first
-    ∷ same (times 0 (sheetCall (timed Z8052 Video 0 4))) (2 ∷ []) ∷ same (shown (rowCall (timed Z8052 RepeatField 0 4) memoryS (at 5 Absent) buffer)) (2 ∷ 5 ∷ 0 ∷ [])
+    ∷ same (times 0 (sheetCall (timed Z8052 Video 0 4))) (2 ∷ []) ∷ same (shown (rowCall (timed Z8052 RepeatField 0 4) memoryS (at 5 Absent) buffer)) (2 ∷ 5 ∷ 0 ∷ 0 ∷ [])
     ∷ good (timed Z8052 Progressive 0 4) ∷ good (timed Am8052 Video 0 4)
     -- P9
     ∷ same (cellsFrom 0 2 (firstRow plain nine)) (0x100041 ∷ 0x20 ∷ [])
@@ -295,15 +299,15 @@ tests =
     ∷ same (clearPart plain ten) [] ∷ same (setPart plain ten) (0x8004 ∷ [])
     -- P11
     ∷ same (shown (firstRow plain (two 32))) (0 ∷ 8 ∷ 0 ∷ 0 ∷ 31 ∷ 13 ∷ replicate 132 0x20)
-    ∷ same (shown (firstRow plain (two 33))) (10 ∷ 0 ∷ 0 ∷ [])
+    ∷ same (shown (firstRow plain (two 33))) (10 ∷ 0 ∷ 0 ∷ 0 ∷ [])
     -- P12
     ∷ same (inHand (stateOfStart (startCall 0 (settings false false 0x8080 0x20) twelve) .fields .window)) (0 ∷ 3 ∷ 3 ∷ 0 ∷ 5 ∷ [])
-    ∷ same (shown (rowCall plain twelve (at 4 (windowOn 3 5 0x20)) buffer)) (8 ∷ 4 ∷ 0 ∷ [])
+    ∷ same (shown (rowCall plain twelve (at 4 (windowOn 3 5 0x20)) buffer)) (8 ∷ 4 ∷ 0 ∷ 0 ∷ [])
     -- 02: the next window has one more, though the first was not shown; a cell of a window names it, the fill inside it does not; a number
     -- above its window's first row is 3
     ∷ same (nextShown (rowCall plain twelve (at 3 (windowOn 2 5 0x20)) buffer)) (0 ∷ 1 ∷ 3 ∷ 3 ∷ 0 ∷ 5 ∷ [])
     ∷ same (cellsFrom 0 3 (windowRow3 3)) (0x3200041 ∷ 0x20 ∷ 0x20 ∷ [])
-    ∷ same (shown (windowRow3 4)) (3 ∷ 3 ∷ 0 ∷ [])
+    ∷ same (shown (windowRow3 4)) (3 ∷ 3 ∷ 0 ∷ 0 ∷ [])
     -- the codes that invoke: 128 of S's, 32 of the mask E0, all 256 of the mask 0
     ∷ eqb (invokingCodes 0x8080) 128 ∷ eqb (invokingCodes 0xE000) 32 ∷ eqb (invokingCodes 0x00FF) 256
     -- misreading: an unlatched word ends a latched ignore. 80 latches A000 and is out, 41 is out, 80 has 0001, 42 is out again
@@ -320,13 +324,19 @@ tests =
     -- the last line, in the last row that a state can have; one row further, row and lines left sum to 4096
     ∷ same (shown (oddRow 1 4094 Absent buffer)) (4094 ∷ 1 ∷ 0x3FF ∷ 0 ∷ 31 ∷ 12 ∷ 0x100241 ∷ 0x100242 ∷ 0x100281 ∷ replicate 129 0x220)
     ∷ same (nextShown (oddRow 1 4094 Absent buffer)) (0 ∷ [])
-    ∷ same (shown (oddRow 1 4095 Absent buffer)) (3 ∷ 4095 ∷ 0 ∷ [])
+    ∷ same (shown (oddRow 1 4095 Absent buffer)) (3 ∷ 4095 ∷ 0 ∷ 0 ∷ [])
     -- .. and with no line left there it is 4, as anywhere: 02 has withdrawn 5
-    ∷ same (shown (oddRow 0 4095 Absent buffer)) (4 ∷ 4095 ∷ 0 ∷ [])
+    ∷ same (shown (oddRow 0 4095 Absent buffer)) (4 ∷ 4095 ∷ 0 ∷ 0 ∷ [])
+    -- 02: a refusal 7 tells where the pointer in use begins. The row block is at 20: a redefinition pointer begins at 26, as a first code
+    -- pointer does where there is none; after one, the second segment's attribute pointer at 38. Both parts of an effect tell it too
+    ∷ same (shown (firstRow plain (page 0x20 (0 ∷ 0 ∷ 0x8000 ∷ 0 ∷ 0x8000 ∷ []) [] []))) (7 ∷ 0 ∷ 0x8000 ∷ 0x26 ∷ [])
+    ∷ same (shown (firstRow plain (page 0x20 (0 ∷ 0 ∷ 1 ∷ 0 ∷ 0x8000 ∷ 0 ∷ 0 ∷ 0x101 ∷ []) [] []))) (7 ∷ 0 ∷ 0x8000 ∷ 0x26 ∷ [])
+    ∷ same (shown (firstRow plain listless)) (7 ∷ 0 ∷ 0x8000 ∷ 0x38 ∷ [])
+    ∷ same (clearPart plain listless) (7 ∷ 0 ∷ 0x8000 ∷ 0x38 ∷ []) ∷ same (setPart plain listless) (7 ∷ 0 ∷ 0x8000 ∷ 0x38 ∷ [])
     -- a row buffer of 131 cells
-    ∷ same (shown (oddRow 8 0 Absent (replicate 131 0))) (1 ∷ 0 ∷ 0 ∷ [])
+    ∷ same (shown (oddRow 8 0 Absent (replicate 131 0))) (1 ∷ 0 ∷ 0 ∷ 0 ∷ [])
     ∷ []
 
 pub marked : every tests ≡ true
-unfolding same every shownAs shown cellsFrom partShown counts times rises settings sheetS memoryS stateAt at stateOfStart wordsOfStart stateAfter buffer firstRow clearPart setPart row0 row1 oddRow padded page one two plain timed video nine ten twelve numbered windowOn windowRow3 inHand nextShown tests _>>=_ each runFrom pointer nextWord ahead words good checkSettings timing linesForRows clocks halved invokingCodes sheetOf sheetCall ones onesIn mainBlock mainBlockAt segmentOf segmentsOf restOfBlock blockAt rowBlockAt windowRowAt formatOf redefined W.windowOf W.windowAt W.firstWindow W.dueWindow S.windowInRange S.inRange invokes sourceNumber windowNumber cell width total allFit boundary edgesFit covered onSide segmentsOn windowRow overlaid nextFields backgroundBlock backgroundRow plan taking put character examine wordCodes codes filled fillByWord fillTo segment segmentsTo rowCells row withCursor rowCall topBlock firstFields windowStart startFrom startCall begin step within rest frame outcomeFor effectCall
+unfolding same every shownAs shown cellsFrom partShown counts times rises settings sheetS memoryS stateAt at stateOfStart wordsOfStart stateAfter buffer firstRow clearPart setPart row0 row1 oddRow padded page one two plain listless timed video nine ten twelve numbered windowOn windowRow3 inHand nextShown tests _>>=_ each runFrom pointer nextWord ahead words good checkSettings timing linesForRows clocks halved invokingCodes sheetOf sheetCall ones onesIn mainBlock mainBlockAt segmentOf segmentsAt restOfBlock blockAt rowBlockAt windowRowAt formatOf redefined W.windowOf W.windowAt W.firstWindow W.dueWindow S.windowInRange S.inRange invokes sourceNumber windowNumber cell width total allFit boundary edgesFit covered onSide segmentsOn windowRow overlaid nextFields backgroundBlock backgroundRow plan taking put character examine wordCodes codes filled fillByWord fillTo segment segmentsTo rowCells row withCursor rowCall topBlock firstFields windowStart startFrom startCall begin step within rest frame outcomeFor effectCall
 marked = refl

@@ -5,7 +5,7 @@ use Rattle.memory.specs.Reading.{_>>=_, each, runFrom}
 use Rattle.memory.specs.Address.{pointer, nextWord, ahead, words}
 use Rattle.settings.specs.Good.{good, checkSettings}
 use Rattle.blocks.specs.Main.{mainBlock, mainBlockAt}
-use Rattle.blocks.specs.RowBlock.{segmentOf, segmentsOf, restOfBlock, blockAt, rowBlockAt, windowRowAt, formatOf, redefined}
+use Rattle.blocks.specs.RowBlock.{segmentOf, segmentsAt, restOfBlock, blockAt, rowBlockAt, windowRowAt, formatOf, redefined}
 use Rattle.windows.specs.Window as W
 use Rattle.state.specs.State as S
 use Rattle.codes.specs.Attribute.{invokes, sourceNumber, windowNumber, cell}
@@ -36,6 +36,6 @@ pub output-s :
     ++ text "end rows 2 words 22\n")
     × (output recordsS ≡ text "refused script at 144\n")
     × (output (recordsS ++ wordRecords 0x22 (0x8000 ∷ []) ++ (0 ∷ []))
-    ≡ text "row 0 lines 8 attr 000 words 12\n00100041 00500042 00100281 00000220\n" ++ text "refused 7 row 1 at 008000\n")
-unfolding _>>=_ each runFrom pointer nextWord ahead words good checkSettings mainBlock mainBlockAt segmentOf segmentsOf restOfBlock blockAt rowBlockAt windowRowAt formatOf redefined W.windowOf W.windowAt W.firstWindow W.dueWindow S.windowInRange S.inRange invokes sourceNumber windowNumber cell width total allFit boundary edgesFit covered onSide segmentsOn windowRow overlaid nextFields backgroundBlock backgroundRow plan taking put character examine wordCodes codes filled fillByWord fillTo segment segmentsTo rowCells row withCursor rowCall topBlock firstFields windowStart startFrom begin step within rest frame linesForRows switched registered accepted settingsAfter memoryAfter unset numberFrom records script register wordRecords recordsS digits fewest rowLine moreCells cellLine endLine refusalLine scriptLine rowsText frameText output
+    ≡ text "row 0 lines 8 attr 000 words 12\n00100041 00500042 00100281 00000220\n" ++ text "refused 7 row 1 at 008000 from 000020\n")
+unfolding _>>=_ each runFrom pointer nextWord ahead words good checkSettings mainBlock mainBlockAt segmentOf segmentsAt restOfBlock blockAt rowBlockAt windowRowAt formatOf redefined W.windowOf W.windowAt W.firstWindow W.dueWindow S.windowInRange S.inRange invokes sourceNumber windowNumber cell width total allFit boundary edgesFit covered onSide segmentsOn windowRow overlaid nextFields backgroundBlock backgroundRow plan taking put character examine wordCodes codes filled fillByWord fillTo segment segmentsTo rowCells row withCursor rowCall topBlock firstFields windowStart startFrom begin step within rest frame linesForRows switched registered accepted settingsAfter memoryAfter unset numberFrom records script register wordRecords recordsS digits fewest rowLine moreCells cellLine endLine refusalLine scriptLine rowsText frameText output
 output-s = (refl, refl, refl)

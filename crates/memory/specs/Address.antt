@@ -4,17 +4,22 @@ use mathlib.Core.Bool.{Bool, true, false, _&&_}
 use mathlib.Core.List.{List, [], _∷_}
 use lib.Dec.{ltb, eqb}
 use Rattle.memory.specs.declared.Pointer.{Pointer}
+use Rattle.memory.specs.Word.{if_then_else_}
 use Rattle.memory.specs.Reading.{Reading, done, word, _>>=_}
 
--- a pointer in use, to an address
-abbrev pub to : ℕ → Pointer
-to a = record { address = a }
+-- a pointer in use, to an address. 02: "the address where the pointer in use begins, 0 when a register held it", and "0 for a null one"
+abbrev pub to : (from : ℕ) → ℕ → Pointer
+to from a = record { address = a; from = if eqb a 0 then 0 else from }
+
+-- a null one
+abbrev pub nothing : Pointer
+nothing = record { address = 0; from = 0 }
 
 -- "A pointer is two words. Linear: low byte of the first, then the second. Segmented: bits 14 to 8 of the first are the
--- page, the second the place in the page .. Bit 0 is cleared"
-unfoldable pub pointer : Bool → ℕ → ℕ → Pointer
-pointer true first second = to ((first % 256 * 65536 + second) / 2 * 2)
-pointer false first second = to ((first / 256 % 128 * 65536 + second) / 2 * 2)
+-- page, the second the place in the page .. Bit 0 is cleared". Its first word is at the address `from`.
+unfoldable pub pointer : Bool → (from : ℕ) → ℕ → ℕ → Pointer
+pointer true from first second = to from ((first % 256 * 65536 + second) / 2 * 2)
+pointer false from first second = to from ((first / 256 % 128 * 65536 + second) / 2 * 2)
 
 -- "a pointer that is then 0 points at nothing"
 abbrev pub null : Pointer → Bool
@@ -59,12 +64,12 @@ unfoldable pub ahead : Bool → ℕ → ℕ → ℕ
 ahead linear zero a = a
 ahead linear (suc k) a = ahead linear k (nextWord linear a)
 
--- the pointer in use, one word and k words further
+-- the pointer in use, one word and k words further: it begins where it did
 abbrev pub onward : Bool → Pointer → Pointer
-onward linear p = to (nextWord linear (p .address))
+onward linear p = record { address = nextWord linear (p .address); from = p .from }
 
 abbrev pub further : Bool → ℕ → Pointer → Pointer
-further linear k p = to (ahead linear k (p .address))
+further linear k p = record { address = ahead linear k (p .address); from = p .from }
 
 -- k words, one after the other
 unfoldable pub words : Bool → ℕ → Pointer → Reading (List ℕ)

@@ -18,7 +18,7 @@ endPage false page = page + 1
 unfoldable pub isRun : Bool → ℕ → ℕ → ℕ → Bool
 isRun linear len a k = leb (a / 2 + k) len && leb (a / 2 + k) (endPage linear (page a) * 32768)
 
--- the answer of `read_words`, with the slice it leaves, as an outcome
+-- the answer of `read_words`, with the slice it leaves, as an outcome. What that slice holds after a refusal is left free.
 abbrev pub wordsRead : WordsRead → List ℕ → Outcome (List ℕ)
 wordsRead Whole ws = given (length ws) ws
 wordsRead (Refused x) ws = refused x

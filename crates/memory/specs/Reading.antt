@@ -1,5 +1,5 @@
 -- A reading is a rule that reads memory: what it asks for, word by word, and what it then gives or refuses.
--- The count of words, refusal 7 with its address and the addresses read, in order, are defined here once for every rule.
+-- The count of words, refusal 7 with its addresses and the addresses read, in order, are defined here once for every rule.
 use mathlib.Core.List.{List, [], _∷_}
 use mathlib.Core.Bool.{Bool, true, false}
 use Prim.Native.Nat.{ℕ, _+_, _/_}
@@ -12,13 +12,15 @@ use Rattle.memory.specs.declared.Pointer.{Pointer}
 use Rattle.memory.specs.declared.Refusal.{Refusal}
 use Rattle.memory.specs.Word.{if_then_else_}
 
--- the question that a reading asks: the word at an address
+-- the question that a reading asks: the word at an address. 02: "Every read of memory should carry the address where the pointer in use
+-- begins"
 pub record Ask : Type 0 where
   pub address : ℕ
+  pub from : ℕ
 
--- a refusal on its way up: that of a check has address 0
+-- a refusal on its way up: that of a check has address 0, and "other refusals hold 0 there" (02)
 abbrev pub fault : ℕ → Fault
-fault n = record { number = n; address = 0 }
+fault n = record { number = n; address = 0; from = 0 }
 
 pub data Reading (A : Type 0) : Type 0 where
   done : A → Reading A
@@ -27,7 +29,7 @@ pub data Reading (A : Type 0) : Type 0 where
 
 -- the word that a pointer in use comes to
 abbrev pub asking : Pointer → Ask
-asking p = record { address = p .address }
+asking p = record { address = p .address; from = p .from }
 
 abbrev pub word : Pointer → Reading ℕ
 word p = ask (asking p) done
@@ -61,9 +63,9 @@ pub data Outcome (A : Type 0) : Type 0 where
   given : (words : ℕ) → A → Outcome A
   refused : Fault → Outcome A
 
--- Refusal 7, "word outside memory", has the address of "the missing word"
+-- Refusal 7, "word outside memory", has the address of "the missing word", and tells where the pointer to it begins
 abbrev pub absent : Ask → Fault
-absent q = record { number = 7; address = q .address }
+absent q = record { number = 7; address = q .address; from = q .from }
 
 -- .. of the word that a pointer in use comes to
 abbrev pub missing : Pointer → Fault
@@ -84,6 +86,6 @@ asked m (done a) = []
 asked m (refuse x) = []
 asked m (ask q f) = q .address ∷ (if ltb (q .address / 2) (length m) then asked m (f (getD m (q .address / 2) 0)) else [])
 
--- what a call tells: a refusal's number and address with the row, which "is 0 at the start, else the state's"
+-- what a call tells: a refusal's number and addresses with the row, which "is 0 at the start, else the state's"
 abbrev pub refusal : ℕ → Fault → Refusal
-refusal row x = record { number = x .number; row = row; address = x .address }
+refusal row x = record { number = x .number; row = row; address = x .address; from = x .from }

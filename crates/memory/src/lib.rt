@@ -1,29 +1,33 @@
 // Display memory: pointers, addresses, and the words that a host lends.
 ghost use mathlib.Core.Path.{_≡_};
-ghost use Prim.Native.Nat.{_+_, _<_};
-ghost use lib.ListN.{length};
+ghost use Prim.Native.Nat.{_+_, _<_, _≤_};
+ghost use lib.ListN.{length, take, drop};
 ghost use lib.Dec.{leb};
 ghost use Rattle.memory.specs.Word.{bit, high, low};
 ghost use Rattle.memory.specs.Reading.{fetch, fault, missing, refusal, run};
-ghost use Rattle.memory.specs.Address.{pointer, isAddress, forward, nextWord, ahead, onward, further, words};
+ghost use Rattle.memory.specs.Address.{to, pointer, isAddress, forward, nextWord, ahead, onward, further, words};
 ghost use Rattle.memory.specs.Answers.{isRun, endPage, wordsRead};
 
-// A pointer in use: the address of the word that is due; a null pointer has 0.
+// A pointer in use: the address of the word that is due, and where the pointer itself begins in memory, 0 where a register held it. A
+// null pointer has 0 and 0.
 pub struct Pointer {
     pub address: u32,
+    pub from: u32,
 }
 
-// A refusal on its way up, before its row is told: document 01's number, and the address.
+// A refusal on its way up, before its row is told: document 01's number, the address, and of refusal 7 where the pointer begins.
 pub struct Fault {
     pub number: u8,
     pub address: u32,
+    pub from: u32,
 }
 
-// A refusal of document 01: its number, the row and the address that it tells.
+// A refusal of document 01: its number, the row and the address that it tells; of refusal 7 also where the pointer in use begins.
 pub struct Refusal {
     pub number: u8,
-    pub row: u16,
+    pub row: u32,
     pub address: u32,
+    pub from: u32,
 }
 
 // A word of memory, or that the address lies outside it.
@@ -38,11 +42,15 @@ pub enum WordsRead {
     Refused(Fault),
 }
 
-// The refusal of a check: its address is 0.
+// The refusal of a check: its addresses are 0.
 pub fn fault_of(number: u8) -> Fault
     ensures { λ r. ⌜ r ≡ fault number ⌝ }
 {
-    Fault { number, address: 0 }
+    Fault {
+        number,
+        address: 0,
+        from: 0,
+    }
 }
 
 // Refusal 7 of the word that is due.
@@ -52,17 +60,19 @@ pub fn missing(p: Pointer) -> Fault
     Fault {
         number: 7,
         address: p.address,
+        from: p.from,
     }
 }
 
 // The refusal that a call tells.
-pub fn refusal_of(row: u16, fault: Fault) -> Refusal
+pub fn refusal_of(row: u32, fault: Fault) -> Refusal
     ensures { λ r. ⌜ r ≡ refusal row fault ⌝ }
 {
     Refusal {
         number: fault.number,
         row,
         address: fault.address,
+        from: fault.from,
     }
 }
 
@@ -94,18 +104,28 @@ pub fn bit_13(w: u16) -> bool
     w / 8192 % 2 == 1
 }
 
-// The pointer that two words give.
-pub fn pointer_of(linear: bool, first: u16, second: u16) -> Pointer
-    ensures { λ r. ⌜ r ≡ pointer linear first second ⌝ }
+// The pointer that two words give, the first of them at the address `from`.
+pub fn pointer_of(linear: bool, from: u32, first: u16, second: u16) -> Pointer
+    ensures { λ r. ⌜ r ≡ pointer linear from first second ⌝ }
 {
     if linear {
-        Pointer {
-            address: (first as u32 % 256 * 65536 + second as u32) / 2 * 2,
-        }
+        pointer_to(from, (first as u32 % 256 * 65536 + second as u32) / 2 * 2)
     } else {
-        Pointer {
-            address: (first as u32 / 256 % 128 * 65536 + second as u32) / 2 * 2,
-        }
+        pointer_to(
+            from,
+            (first as u32 / 256 % 128 * 65536 + second as u32) / 2 * 2,
+        )
+    }
+}
+
+// The pointer to an address: a null one begins nowhere.
+fn pointer_to(from: u32, address: u32) -> Pointer
+    ensures { λ r. ⌜ r ≡ to from address ⌝ }
+{
+    if address == 0 {
+        Pointer { address, from: 0 }
+    } else {
+        Pointer { address, from }
     }
 }
 
@@ -139,6 +159,7 @@ pub fn onward(linear: bool, p: Pointer) -> Pointer
 {
     Pointer {
         address: next_word(linear, p.address),
+        from: p.from,
     }
 }
 
@@ -148,6 +169,7 @@ pub fn further(linear: bool, count: u32, p: Pointer) -> Pointer
 {
     Pointer {
         address: words_ahead(linear, count, p.address),
+        from: p.from,
     }
 }
 
@@ -187,6 +209,33 @@ pub fn read_words(mem: &[u16], linear: bool, p: Pointer, into: &mut [u16]) -> Wo
         i += 1;
     }
     WordsRead::Whole
+}
+
+// As `read_words`, of words that are often many and stand one after the other in memory: those are copied.
+pub fn read_many(mem: &[u16], linear: bool, p: Pointer, into: &mut [u16]) -> WordsRead
+    ensures { λ r. ⌜ wordsRead r (now (into .exit)) ≡ run (now (mem .entry)) (words linear (length (now (into .entry))) p) ⌝ }
+{
+    if into.len() == 0 {
+        return WordsRead::Whole;
+    }
+    let first = p.address;
+    if is_run(mem, linear, first, into.len()) {
+        copy_run(mem, (first / 2) as usize, into);
+        return WordsRead::Whole;
+    }
+    read_words(mem, linear, p, into)
+}
+
+// The words of memory from number `at` on, as many as `into` holds.
+fn copy_run(mem: &[u16], at: usize, into: &mut [u16])
+    requires { ⌜ at + length (now into) ≤ length (now mem) ⌝ }
+    ensures { λ _. ⌜ now (into .exit) ≡ take (length (now (into .entry))) (drop at (now (mem .entry))) ⌝ }
+{
+    let mut i = 0;
+    while i < into.len() {
+        into[i] = mem[at + i];
+        i += 1;
+    }
 }
 
 // Do `count` places from `i` on lie before `end`? Written without the sum `i + count`, which could wrap.

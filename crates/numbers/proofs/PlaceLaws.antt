@@ -8,13 +8,13 @@ use native.Mathlib.Numerals.{add-one}
 use native.Mathlib.Omega.{arith}
 use lib.ListN.{length, getD, drop, drop-of-length-le}
 use lib.Seq.{drop-cons, getD-drop, drop-drop}
-use lib.Dec.{leb}
-use borrow.Author.Tests.{le-leb, lt-leb, leb-true}
+use lib.Dec.{leb, eqb}
+use borrow.Author.Tests.{le-leb, lt-leb, leb-true, eqb-true}
 use Rattle.memory.specs.Word.{if_then_else_}
 use Rattle.state.specs.declared.State.{State}
 use Rattle.numbers.specs.declared.decode.StateIn.the-variants.{Fit, Unfit}
-use Rattle.numbers.specs.Places.{within, Below, Within, stateLimits}
-use Rattle.numbers.specs.Decode.{stateAt, stateIn}
+use Rattle.numbers.specs.Places.{within, Below, Within}
+use Rattle.numbers.specs.Decode.{stateAt, unjudgedFit, isState, stateIn}
 
 left-true : (a b : Bool) → a && b ≡ true → a ≡ true
 left-true true b e = refl
@@ -74,11 +74,15 @@ below i (l ∷ ls) xs e =
 pub all-within : (ls xs : List ℕ) → within ls xs ≡ true → Within ls xs
 all-within ls xs e = (size ls xs e, below 0 ls xs e)
 
--- a state's numbers are 20
+-- a state's numbers are 23
 taken : (b : Bool) (t s : State) → (if b then Fit t else Unfit) ≡ Fit s → b ≡ true
 taken true t s e = refl
 taken false t s e = cc
 
-pub state-size : (xs : List ℕ) (s : State) → stateIn xs ≡ Fit s → length xs ≡ 20
+pub is-state-size : (xs : List ℕ) → isState xs ≡ true → length xs ≡ 23
+unfolding isState
+is-state-size xs e = eqb-true (length xs) 23 (left-true (eqb (length xs) 23) (unjudgedFit xs) e)
+
+pub state-size : (xs : List ℕ) (s : State) → stateIn xs ≡ Fit s → length xs ≡ 23
 unfolding stateIn
-state-size xs s e = size stateLimits xs (taken (within stateLimits xs) (stateAt xs) s e)
+state-size xs s e = is-state-size xs (taken (isState xs) (stateAt xs) s e)

@@ -3,7 +3,7 @@ use Prim.Native.Nat.{ℕ}
 use mathlib.Core.Bool.{Bool, true, false}
 use mathlib.Core.List.{List, [], _∷_}
 use Rattle.memory.specs.Word.{if_then_else_}
-use Rattle.memory.specs.Address.{to}
+use Rattle.memory.specs.Address.{nothing}
 use Rattle.windows.specs.declared.Window.{Window}
 use Rattle.windows.specs.declared.WindowInHand.{WindowInHand}
 use Rattle.windows.specs.declared.WindowInHand.the-variants.{Absent, Present}
@@ -19,7 +19,7 @@ isHeld Absent = false
 isHeld (Present w) = true
 
 abbrev pub held : WindowInHand → Window
-held Absent = record { block = record { number = 0; top = 0; bottom = 0; left = 0; right = 0; link = to 0 }; rows = to 0 }
+held Absent = record { block = record { number = 0; top = 0; bottom = 0; left = 0; right = 0; link = nothing }; rows = nothing }
 held (Present w) = w
 
 unfoldable pub stateNumbers : State → List ℕ
@@ -31,4 +31,5 @@ stateNumbers s =
     ∷ held (s .fields .window) .block .top ∷ held (s .fields .window) .block .bottom
     ∷ held (s .fields .window) .block .left ∷ held (s .fields .window) .block .right
     ∷ held (s .fields .window) .rows .address ∷ held (s .fields .window) .block .link .address
-    ∷ held (s .fields .window) .block .number ∷ []
+    ∷ held (s .fields .window) .block .number
+    ∷ s .fields .next .from ∷ held (s .fields .window) .rows .from ∷ held (s .fields .window) .block .link .from ∷ []

@@ -13,18 +13,9 @@ within [] (x ∷ xs) = false
 within (l ∷ ls) [] = false
 within (l ∷ ls) (x ∷ xs) = leb x l && within ls xs
 
--- linear, Display Hidden, interlace, cursor enable; attribute flag, TOP, TOW; VSW, VSD, VAL, VTOT; HSYNC, HSD, HTC, HTD;
--- edition
-abbrev pub settingsLimits : List ℕ
-settingsLimits =
-    1 ∷ 1 ∷ 2 ∷ 1 ∷ 65535 ∷ 65535 ∷ 65535 ∷ 65535 ∷ 65535 ∷ 65535 ∷ 65535 ∷ 65535 ∷ 65535 ∷ 65535 ∷ 65535 ∷ 65535 ∷ 65535 ∷ 1 ∷ []
-
--- latch, row, lines left, cursor X, Y, fill code, fill flag; scan lines, row attributes, CURS, CURE; next row block; whether there
--- is a window, its first row, last row, first column, last column, next row block, next window block, its number
-abbrev pub stateLimits : List ℕ
-stateLimits =
-    65535 ∷ 65535 ∷ 65535 ∷ 255 ∷ 255 ∷ 255 ∷ 1 ∷ 255 ∷ 65535 ∷ 255 ∷ 255 ∷ 4294967295
-    ∷ 1 ∷ 255 ∷ 255 ∷ 255 ∷ 255 ∷ 4294967295 ∷ 4294967295 ∷ 255 ∷ []
+-- any number
+abbrev pub any : ℕ
+any = 4294967295
 
 -- the same as facts on numbers, from the place i on
 abbrev pub Below : ℕ → List ℕ → List ℕ → Type 0

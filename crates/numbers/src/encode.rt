@@ -9,7 +9,7 @@ ghost use lib.ListN.{length};
 ghost use Rattle.numbers.specs.Encode.{number, isHeld, held, stateNumbers};
 
 pub fn write_state(state: State, into: &mut [u32])
-    requires { ⌜ length (now into) ≡ 20 ⌝ }
+    requires { ⌜ length (now into) ≡ 23 ⌝ }
     ensures { λ _. ⌜ now (into .exit) ≡ stateNumbers state ⌝ }
 {
     let f = state.fields;
@@ -23,7 +23,7 @@ pub fn write_state(state: State, into: &mut [u32])
     let present = number(is_held(in_hand));
     let numbers = [
         state.latch as u32,
-        f.row as u32,
+        f.row,
         f.left as u32,
         cursor.x as u32,
         cursor.y as u32,
@@ -42,6 +42,9 @@ pub fn write_state(state: State, into: &mut [u32])
         w.rows.address,
         b.link.address,
         b.number as u32,
+        f.next.from,
+        w.rows.from,
+        b.link.from,
     ];
     write(&numbers, into);
 }
@@ -66,7 +69,10 @@ fn held(in_hand: WindowInHand) -> Window
 {
     match in_hand {
         WindowInHand::Absent => {
-            let null = Pointer { address: 0 };
+            let null = Pointer {
+                address: 0,
+                from: 0,
+            };
             let block = WindowBlock {
                 number: 0,
                 top: 0,

@@ -20,7 +20,7 @@ planOf linear p bs os = record {
   next = p .next;
 }
 
--- the answer of `plan_row` as an outcome
+-- the answer of `plan_row` as an outcome. What the words are past the segments counted, and after a refusal, is left free.
 abbrev pub planAnswer : Bool → PlanAnswer → List ℕ → List ℕ → Outcome Plan
 planAnswer linear (Planned p) bs os = given (p .words) (planOf linear p bs os)
 planAnswer linear (Refused x) bs os = refused x

@@ -1,6 +1,9 @@
 // The plan of a row: what it is drawn from, before any cell.
 use background::BackgroundRead;
+use blocks::Cursor;
+use blocks::FillMode;
 use blocks::RowFormat;
+use blocks::SegmentCount;
 use layout::OverlayHead;
 use layout::overlay;
 use layout::overlay::OverlayRead;
@@ -23,7 +26,7 @@ ghost use Rattle.plan.specs.Answers.{planAnswer};
 pub struct PlanHead {
     pub lines: u16,
     pub format: RowFormat,
-    pub count: u8,
+    pub count: SegmentCount,
     pub overlay: OverlayHead,
     pub next: Fields,
     pub words: u32,
@@ -96,19 +99,20 @@ fn plan_blocks(
                         window,
                         words: more,
                     } => {
+                        let count = block.count;
                         if overlay::edges_fit(
                             settings.linear,
                             settings.hidden,
                             overlay,
                             back,
-                            block.count,
+                            count,
                         ) {
                             let link = block.link;
                             let next = next_fields(fields, format, link, window);
                             PlanAnswer::Planned(PlanHead {
                                 lines: lines_taken(format, fields.left),
                                 format,
-                                count: block.count,
+                                count,
                                 overlay,
                                 next,
                                 words: words + block.words + more,
@@ -146,8 +150,15 @@ fn next_fields(f: Fields, format: RowFormat, link: Pointer, window: WindowInHand
     requires { ⌜ f .row < 4095 ⌝ }
     ensures { λ r. ⌜ r ≡ nextFields f format link window ⌝ }
 {
-    let cursor = f.cursor;
-    let fill = f.fill;
+    // field by field: each is read as it was written
+    let cursor = Cursor {
+        x: f.cursor.x,
+        y: f.cursor.y,
+    };
+    let fill = FillMode {
+        code: f.fill.code,
+        flag: f.fill.flag,
+    };
     Fields {
         row: f.row + 1,
         left: f.left - lines_taken(format, f.left),

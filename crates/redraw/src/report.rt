@@ -47,6 +47,10 @@ pub(crate) fn refused(r: Refusal) {
     labelled(b" row ", r.row as u64);
     text(b" at ");
     io::print_hex(STDOUT_FILENO, r.address as u64, 6);
+    if r.number == 7 {
+        text(b" from ");
+        io::print_hex(STDOUT_FILENO, r.from as u64, 6);
+    }
     text(b"\n");
 }
 

@@ -20,6 +20,7 @@ pub(crate) fn blank() -> Outcome {
         number: 0,
         row: 0,
         address: 0,
+        from: 0,
     })
 }
 
@@ -49,7 +50,7 @@ pub(crate) fn outcomes(a: Outcome, b: Outcome) -> bool {
 }
 
 fn refusals(r: Refusal, s: Refusal) -> bool {
-    (r.number == s.number) & (r.row == s.row) & (r.address == s.address)
+    (r.number == s.number) & (r.row == s.row) & (r.address == s.address) & (r.from == s.from)
 }
 
 fn all_cells(xs: &[u32; 132], ys: &[u32; 132]) -> bool {
@@ -90,6 +91,7 @@ fn all_fields(a: Fields, b: Fields) -> bool {
         & (a.fill.code == b.fill.code)
         & (a.fill.flag == b.fill.flag)
         & (a.next.address == b.next.address)
+        & (a.next.from == b.next.from)
         & formats(f, g)
         & in_hand(v, w)
 }
@@ -116,5 +118,7 @@ fn windows(a: Window, b: Window) -> bool {
         & (v.left == w.left)
         & (v.right == w.right)
         & (v.link.address == w.link.address)
+        & (v.link.from == w.link.from)
         & (a.rows.address == b.rows.address)
+        & (a.rows.from == b.rows.from)
 }

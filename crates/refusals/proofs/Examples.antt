@@ -15,7 +15,7 @@ use Rattle.settings.specs.Sheet.{sheetCall}
 use Rattle.windows.specs.declared.WindowInHand.{WindowInHand}
 use Rattle.windows.specs.declared.WindowInHand.the-variants.{Absent, Present}
 use Rattle.blocks.specs.Main.{mainBlock, mainBlockAt}
-use Rattle.blocks.specs.RowBlock.{segmentOf, segmentsOf, restOfBlock, blockAt, rowBlockAt, windowRowAt, redefined}
+use Rattle.blocks.specs.RowBlock.{segmentOf, segmentsAt, restOfBlock, blockAt, rowBlockAt, windowRowAt, redefined}
 use Rattle.windows.specs.Window as W
 use Rattle.state.specs.declared.Fields.{Fields}
 use Rattle.state.specs.State as S
@@ -68,14 +68,14 @@ fields left w = record {
   cursor = record { x = 0; y = 0 };
   fill = record { code = 0x20; flag = true };
   format = record { lines = 8; attributes = 0; curs = 0; cure = 31 };
-  next = to 2;
+  next = to 0 2;
   window = w;
 }
 
 -- a window on the rows top to bottom, columns 1 and 2, with its row block and the next window block at these addresses
 window : ℕ → ℕ → ℕ → ℕ → WindowInHand
 window top bottom rows link =
-    Present (record { block = record { number = 0; top = top; bottom = bottom; left = 1; right = 2; link = to link }; rows = to rows })
+    Present (record { block = record { number = 0; top = top; bottom = bottom; left = 1; right = 2; link = to 0 link }; rows = to 0 rows })
 
 -- a memory with a row block of one segment at 2: its code pointer, its attribute pointer, L and V in one word
 block : ℕ → ℕ → ℕ → List ℕ
@@ -128,7 +128,7 @@ scrolling = 0 ∷ 0 ∷ 0 ∷ 0 ∷ 0 ∷ 0x5000 ∷ 0 ∷ 0 ∷ []
 -- VAL 0; TOP null; no word; M4 with enable and window; a window whose first row, 1, is past its last, 0
 pub starts : ofStart (startCall 0 bad []) ++ ofStart (startCall 0 (settings 0 0 16) []) ++ ofStart (startCall 0 plain [])
     ++ ofStart (startCall 0 plain scrolling) ++ ofStart (startCall 0 (settings 2 2 16) (0 ∷ 0 ∷ 0 ∷ 0 ∷ 0 ∷ 0x100 ∷ 0 ∷ 0 ∷ [])) ≡ startNumbers
-unfolding settings bad plain good checkSettings pointer nextWord words _>>=_ runFrom mainBlock mainBlockAt W.windowOf W.windowAt W.firstWindow topBlock firstFields windowStart startFrom startCall scrolling
+unfolding settings bad plain good checkSettings pointer nextWord ahead words _>>=_ runFrom mainBlock mainBlockAt W.windowOf W.windowAt W.firstWindow topBlock firstFields windowStart startFrom startCall scrolling
 starts = refl
 
 -- a scroll of this phase
@@ -144,11 +144,11 @@ shifts = refl
 
 -- 131 cells, then the calls above
 pub rows : ofRow (rowCall plain [] (S.stateOf 0 (fields 1 Absent)) (replicate 131 0) .answer) ++ rowsOf calls ≡ rowNumbers
-unfolding settings bad plain fields window block call calls rowsOf good checkSettings pointer nextWord ahead words _>>=_ each runFrom segmentOf segmentsOf restOfBlock blockAt rowBlockAt windowRowAt redefined W.windowOf W.windowAt W.dueWindow S.windowInRange S.inRange width total allFit boundary edgesFit windowRow overlaid nextFields backgroundBlock backgroundRow plan codes fillByWord fillTo segment segmentsTo rowCells row rowCall
+unfolding settings bad plain fields window block call calls rowsOf good checkSettings pointer nextWord ahead words _>>=_ each runFrom segmentOf segmentsAt restOfBlock blockAt rowBlockAt windowRowAt redefined W.windowOf W.windowAt W.dueWindow S.windowInRange S.inRange width total allFit boundary edgesFit windowRow overlaid nextFields backgroundBlock backgroundRow plan codes fillByWord fillTo segment segmentsTo rowCells row rowCall
 rows = refl
 
 pub effects : (clearOf calls ≡ effectNumbers) × (setOf calls ≡ effectNumbers)
-unfolding settings bad plain fields window block call calls clearOf setOf good checkSettings pointer nextWord ahead words _>>=_ each runFrom segmentOf segmentsOf restOfBlock blockAt rowBlockAt windowRowAt redefined W.windowOf W.windowAt W.dueWindow S.windowInRange S.inRange width total allFit boundary edgesFit windowRow overlaid nextFields backgroundBlock backgroundRow plan codes fillByWord fillTo segment segmentsTo rowCells row outcomeFor effectCall
+unfolding settings bad plain fields window block call calls clearOf setOf good checkSettings pointer nextWord ahead words _>>=_ each runFrom segmentOf segmentsAt restOfBlock blockAt rowBlockAt windowRowAt redefined W.windowOf W.windowAt W.dueWindow S.windowInRange S.inRange width total allFit boundary edgesFit windowRow overlaid nextFields backgroundBlock backgroundRow plan codes fillByWord fillTo segment segmentsTo rowCells row outcomeFor effectCall
 effects = (refl, refl)
 
 -- "5 withdrawn, its number unused"

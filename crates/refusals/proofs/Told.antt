@@ -71,7 +71,7 @@ module _ {ns : List ℕ} where
   unfolding windowAt
   window-refuses h linear number least p =
       if-refuses (null p) dones (bind (words-refuse linear 6 p) λ b.
-      check-then 8 (inOrder (windowOf linear number b .block) && leb least (windowOf linear number b .block .top)) h λ _ _. dones)
+      check-then 8 (inOrder (windowOf linear number (p .address) b .block) && leb least (windowOf linear number (p .address) b .block .top)) h λ _ _. dones)
 
   due-refuses : has 8 ns ≡ true → (linear : Bool) (row : ℕ) (w : WindowInHand) → Refuses ns (dueWindow linear row w)
   unfolding dueWindow

@@ -20,7 +20,7 @@ ghost use Rattle.row.specs.Row.{codeSettings, row, withCursor, called, a
 
 // The answer of an accepted row, but for its cells, which the row buffer has.
 pub struct DrawnRow {
-    pub number: u16,
+    pub number: u32,
     pub lines: u16,
     pub format: RowFormat,
     pub words: u32,
@@ -61,7 +61,7 @@ pub fn code_settings(settings: Settings) -> CodeSettings
     }
 }
 
-// A planned row: its cells in an array of its own, copied into the buffer once all is accepted.
+// A planned row: its cells are drawn in the buffer, and a refusal puts back what stood there before.
 fn draw_planned(
     settings: Settings,
     mem: &[u16],
@@ -78,35 +78,39 @@ fn draw_planned(
     let fields = state.fields;
     let fill = fields.fill;
     let overlay = p.overlay;
+    let count = p.count;
     let code = code_settings(settings);
-    let mut cells = [0u32; 132];
+    let mut kept = [0u32; 132];
+    copy_cells(buffer, &mut kept);
     match cells::draw_cells(
         mem,
         code,
         fill,
         overlay,
         back,
-        p.count,
+        count,
         window,
         state.latch,
         p.words,
-        &mut cells,
+        buffer,
     ) {
-        CellsDrawn::Refused(fault) => RowAnswer::Refused(memory::refusal_of(fields.row, fault)),
+        CellsDrawn::Refused(fault) => {
+            copy_cells(&kept, buffer);
+            RowAnswer::Refused(memory::refusal_of(fields.row, fault))
+        }
         CellsDrawn::Accepted {
             latch,
             latched: _,
             words,
         } => {
-            mark_cursor(settings, fields, &mut cells);
-            copy_cells(&cells, buffer);
+            mark_cursor(settings, fields, buffer);
             row_answer(fields.row, p, latch, words)
         }
     }
 }
 
 // The answer of an accepted row.
-fn row_answer(number: u16, p: PlanHead, latch: u16, read: u32) -> RowAnswer
+fn row_answer(number: u32, p: PlanHead, latch: u16, read: u32) -> RowAnswer
     ensures { λ r. ⌜ r ≡ answerOf number (p .lines) (p .format) read (stateOf latch (p .next)) ⌝ }
 {
     let format = p.format;
@@ -136,7 +140,7 @@ fn mark_cursor(settings: Settings, fields: Fields, cells: &mut [u32])
 fn is_cursor_row(enabled: bool, fields: Fields) -> bool
     ensures { λ r. ⌜ r ≡ enabled && eqb (fields .cursor .y) (fields .row) ⌝ }
 {
-    enabled & (fields.cursor.y as u16 == fields.row)
+    enabled & (fields.cursor.y as u32 == fields.row)
 }
 
 // `from` copied into `into`.

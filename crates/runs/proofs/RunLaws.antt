@@ -12,7 +12,7 @@ use Rattle.memory.specs.declared.Fetch.the-variants.{Word}
 use Rattle.memory.specs.Word.{if_then_else_, high, low}
 use Rattle.memory.specs.Reading.{_>>=_, each, fetch, given, runFrom, run}
 use Rattle.memory.specs.declared.Pointer.{Pointer}
-use Rattle.memory.specs.Address.{to, ahead, onward}
+use Rattle.memory.specs.Address.{ahead, onward}
 use Rattle.memory.specs.Answers.{isRun}
 use Rattle.memory.proofs.Laws.{bind-given, run-done, ask-word, step-same, each-append}
 use Rattle.memory.proofs.RunLaws.{ahead-more, run-ends, run-fetch}
@@ -79,7 +79,7 @@ module _ (w : ℕ) (own : InForce) (column : ℕ) (h : Cursor) where
         column = column;
         latch = if latches w then w else h .latch;
         latched = if latches w then true else h .latched;
-        list = record { present = true; next = to next };
+        list = record { present = true; next = record { address = next; from = list .from } };
       }) (ahead-more linear (h .taken) (list .address))
 
 -- the pen of a segment's begin

@@ -31,6 +31,9 @@ pub fn draw_codes(
     ensures { λ r. ⌜ Within (room .end) (words + 2 * count) r ⌝ }
     ensures { λ r. ⌜ drawn r (now (cells .exit)) ≡ runFrom words (now (mem .entry)) (codes settings (room .source) (room .end) count p (soFar pen (now (cells .entry)))) ⌝ }
 {
+    if count == 0 {
+        return Drawn::Accepted { pen, words };
+    }
     if memory::is_run(mem, settings.linear, p.address, (count as usize + 1) / 2) {
         if !pen.list.present {
             return without_list::draw_without_list(

@@ -8,7 +8,7 @@ use lib.Signed.{ltZ}
 use mir.Syntax.{w32}
 use mir.Val.{toZ, ofZ}
 use Rattle.memory.specs.Word.{if_then_else_, at}
-use Rattle.memory.specs.Address.{to}
+use Rattle.memory.specs.Address.{nothing}
 use Rattle.windows.specs.declared.WindowInHand.the-variants as InHand
 use Rattle.state.specs.declared.State.{State}
 use Rattle.scroll.specs.declared.Scroll.{Scroll}
@@ -34,9 +34,9 @@ scrollNumbers s = ofZ w32 (s .shift) ∷ s .phase ∷ s .direction ∷ []
 abbrev pub scrollOf : List ℕ → Scroll
 scrollOf ns = record { shift = toZ w32 (at ns 0); phase = at ns 1; direction = at ns 2 }
 
--- the answer of an accepted shift call: row and address 0, and the two words of the hard top
+-- the answer of an accepted shift call: row and addresses 0, and the two words of the hard top
 abbrev pub topNumbers : PointerWords → List ℕ
-topNumbers t = 0 ∷ 0 ∷ t .first ∷ t .second ∷ []
+topNumbers t = 0 ∷ 0 ∷ 0 ∷ t .first ∷ t .second ∷ []
 
 -- a shift call; a refused one leaves the scroll and the places of the hard top as they were
 abbrev pub afterShift : List ℕ → List ℕ → ShiftAnswer → Stated
@@ -45,10 +45,10 @@ afterShift scroll answer (Shift.Refused r) = stated (r .number) scroll (withRefu
 
 -- the answer of a row beside the cut, as a row's; of none, zeros
 unfoldable pub besideNumbers : BesideRow → List ℕ
-besideNumbers d = d .number ∷ 0 ∷ d .lines ∷ d .format .attributes ∷ d .format .curs ∷ d .format .cure ∷ d .words ∷ []
+besideNumbers d = d .number ∷ 0 ∷ 0 ∷ d .lines ∷ d .format .attributes ∷ d .format .curs ∷ d .format .cure ∷ d .words ∷ []
 
 abbrev pub noRow : List ℕ
-noRow = 0 ∷ 0 ∷ 0 ∷ 0 ∷ 0 ∷ 0 ∷ 0 ∷ []
+noRow = 0 ∷ 0 ∷ 0 ∷ 0 ∷ 0 ∷ 0 ∷ 0 ∷ 0 ∷ []
 
 -- a row beside the cut: a status, and what stands in the row buffer and in the answer
 abbrev pub besideAnswered : List ℕ → List ℕ → BesideAnswer → Stated
@@ -69,7 +69,7 @@ noState = record {
     cursor = record { x = 0; y = 0 };
     fill = record { code = 0; flag = false };
     format = record { lines = 0; attributes = 0; curs = 0; cure = 0 };
-    next = to 0;
+    next = nothing;
     window = InHand.Absent;
   };
 }

@@ -32,7 +32,7 @@ pub fn next_shift(
     scroll: &mut [u32],
     answer: &mut [u32],
 ) -> u8
-    requires { ⌜ (length (now scroll) ≡ 3) × (length (now answer) ≡ 4) ⌝ }
+    requires { ⌜ (length (now scroll) ≡ 3) × (length (now answer) ≡ 5) ⌝ }
     ensures { λ r. ⌜ stated r (now (scroll .exit)) (now (answer .exit)) ≡ afterShift (now (scroll .entry)) (now (answer .entry)) (shiftCall settings (now (memory .entry)) soft (scrollOf (now (scroll .entry)))) ⌝ }
 {
     let last = Scroll {
@@ -63,7 +63,7 @@ pub fn beside_from(
     cells: &mut [u32],
     answer: &mut [u32],
 ) -> u8
-    requires { ⌜ length (now answer) ≡ 7 ⌝ }
+    requires { ⌜ length (now answer) ≡ 8 ⌝ }
     ensures { λ r. ⌜ stated r (now (cells .exit)) (now (answer .exit)) ≡ besideFrom settings (now (memory .entry)) shift soft latch (now (state .entry)) (now (cells .entry)) (now (answer .entry)) ⌝ }
 {
     if 0 < shift {
@@ -97,12 +97,12 @@ fn next_beside(
     cells: &mut [u32],
     answer: &mut [u32],
 ) -> u8
-    requires { ⌜ length (now answer) ≡ 7 ⌝ }
+    requires { ⌜ length (now answer) ≡ 8 ⌝ }
     ensures { λ r. ⌜ stated r (now (cells .exit)) (now (answer .exit)) ≡ afterBeside (now (answer .entry)) (besideCall settings (now (memory .entry)) shift soft latch last (now (cells .entry))) ⌝ }
 {
     match beside::beside(settings, memory, shift, soft, latch, last, cells) {
         BesideAnswer::Absent => {
-            let zeros = [0u32; 7];
+            let zeros = [0u32; 8];
             encode::write(&zeros, answer);
             0
         }
@@ -129,7 +129,10 @@ fn no_state() -> State
         curs: 0,
         cure: 0,
     };
-    let next = Pointer { address: 0 };
+    let next = Pointer {
+        address: 0,
+        from: 0,
+    };
     let fields = Fields {
         row: 0,
         left: 0,
@@ -151,20 +154,21 @@ fn write_scroll(s: Scroll, into: &mut [u32])
 }
 
 fn write_top(top: PointerWords, into: &mut [u32])
-    requires { ⌜ length (now into) ≡ 4 ⌝ }
+    requires { ⌜ length (now into) ≡ 5 ⌝ }
     ensures { λ _. ⌜ now (into .exit) ≡ topNumbers top ⌝ }
 {
-    let numbers = [0, 0, top.first as u32, top.second as u32];
+    let numbers = [0, 0, 0, top.first as u32, top.second as u32];
     encode::write(&numbers, into);
 }
 
 fn write_beside(row: BesideRow, into: &mut [u32])
-    requires { ⌜ length (now into) ≡ 7 ⌝ }
+    requires { ⌜ length (now into) ≡ 8 ⌝ }
     ensures { λ _. ⌜ now (into .exit) ≡ besideNumbers row ⌝ }
 {
     let format = row.format;
     let numbers = [
-        row.number as u32,
+        row.number,
+        0,
         0,
         row.lines as u32,
         format.attributes as u32,

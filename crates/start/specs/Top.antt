@@ -9,9 +9,9 @@ use Rattle.settings.specs.declared.PointerWords.{PointerWords}
 use Rattle.blocks.specs.declared.MainBlock.{MainBlock}
 use Rattle.blocks.specs.Main.{mainBlockAt}
 
--- the pointer that a register holds in two words
+-- the pointer that a register holds in two words. 02: "0 when a register held it"
 abbrev pub registered : Bool → PointerWords → Pointer
-registered linear w = pointer linear (w .first) (w .second)
+registered linear w = pointer linear 0 (w .first) (w .second)
 
 -- "M4's bits are 14 enable, 13 up, 12 window, 11..8 document 000's sixteen rates (places ours)."
 abbrev pub enabled : MainBlock → Bool

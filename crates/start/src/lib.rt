@@ -44,7 +44,7 @@ pub fn start(settings: Settings, mem: &[u16], latch: u16) -> StartAnswer
 pub fn top_block(mem: &[u16], linear: bool, top: PointerWords) -> MainRead
     ensures { λ r. ⌜ mainRead r ≡ run (now (mem .entry)) (topBlock linear top) ⌝ }
 {
-    let p = memory::pointer_of(linear, top.first, top.second);
+    let p = memory::pointer_of(linear, 0, top.first, top.second);
     if p.address == 0 {
         return MainRead::Refused(memory::fault_of(6));
     }
@@ -94,7 +94,7 @@ fn start_main(settings: Settings, mem: &[u16], latch: u16) -> StartAnswer
 fn start_window(settings: Settings, mem: &[u16], latch: u16, main: MainBlock) -> StartAnswer
     ensures { λ r. ⌜ r ≡ started (runFrom 7 (now (mem .entry)) (windowStart latch settings main)) ⌝ }
 {
-    let tow = memory::pointer_of(settings.linear, settings.tow.first, settings.tow.second);
+    let tow = memory::pointer_of(settings.linear, 0, settings.tow.first, settings.tow.second);
     match windows::first_window(mem, settings.linear, tow) {
         WindowRead::Refused(fault) => StartAnswer::Refused(memory::refusal_of(0, fault)),
         WindowRead::Read { window, words } => {

@@ -14,13 +14,12 @@ use Rattle.windows.specs.Window.{inOrder}
 use Rattle.windows.specs.Answers.{Numbered}
 use Rattle.windows.proofs.WindowBounds.{Placed, in-order}
 use Rattle.state.specs.declared.Fields.{Fields}
-use Rattle.memory.specs.Address.{isAddress}
-use Rattle.state.specs.State.{formatInRange, windowInRange, inRange}
+use Rattle.state.specs.State.{formatInRange, pointerInRange, windowInRange, inRange}
 
 -- what the first two clauses of its check tell of a window in hand
 ordered : (w : Window) → windowInRange (Present w) ≡ true → (inOrder (w .block) ≡ true) × (leb (w .block .number) (w .block .top) ≡ true)
 unfolding windowInRange
-ordered w h = both (inOrder (w .block)) _ (both (inOrder (w .block) && leb (w .block .number) (w .block .top)) _ (both _ (isAddress (w .block .link .address)) h .0) .0)
+ordered w h = both (inOrder (w .block)) _ (both (inOrder (w .block) && leb (w .block .number) (w .block .top)) _ (both _ (pointerInRange (w .block .link)) h .0) .0)
 
 -- a window of a state in range is in order, and its number at most its first row
 pub window-placed : (w : WindowInHand) → windowInRange w ≡ true → Placed w
@@ -32,7 +31,7 @@ pub placed : (f : Fields) → inRange f ≡ true → Placed (f .window)
 unfolding inRange
 placed f h =
     window-placed (f .window)
-    (both (leb (f .row + f .left) 4095 && formatInRange (f .format) && isAddress (f .next .address)) (windowInRange (f .window)) h .1)
+    (both (leb (f .row + f .left) 4095 && formatInRange (f .format) && pointerInRange (f .next)) (windowInRange (f .window)) h .1)
 
 -- so it is at most its last row
 at-most-last : (w : WindowInHand) → Placed w → Numbered w
@@ -46,7 +45,7 @@ numbered f h = at-most-last (f .window) (placed f h)
 pub lines-within : (f : Fields) → inRange f ≡ true → f .row + f .left ≤ 4095
 unfolding inRange
 lines-within f h =
-    let formatted = both _ (isAddress (f .next .address)) (both _ (windowInRange (f .window)) h .0) .0 in
+    let formatted = both _ (pointerInRange (f .next)) (both _ (windowInRange (f .window)) h .0) .0 in
     leb-true (f .row + f .left) 4095 (both (leb (f .row + f .left) 4095) (formatInRange (f .format)) formatted .0)
 
 -- a state in range with a line left is below row 4095: what refusal 5 asked before 02 withdrew it
@@ -58,5 +57,5 @@ pub has-line : (f : Fields) → inRange f ≡ true → 1 ≤ f .format .lines
 unfolding inRange
 has-line f h =
     let t = f .format in
-    let ranged = both (leb (f .row + f .left) 4095) (formatInRange t) (both _ (isAddress (f .next .address)) (both _ (windowInRange (f .window)) h .0) .0) .1 in
+    let ranged = both (leb (f .row + f .left) 4095) (formatInRange t) (both _ (pointerInRange (f .next)) (both _ (windowInRange (f .window)) h .0) .0) .1 in
     leb-true 1 (t .lines) (both (leb 1 (t .lines)) _ (both _ (leb (t .curs) 31) (both _ (leb (t .cure) 31) (both _ (leb (t .attributes) 1023) ranged .0) .0) .0) .0)

@@ -25,7 +25,7 @@ sheetFrom answer (Settings-in.Fit σ) = afterSheet answer (sheetCall σ)
 sheetFrom answer Settings-in.Unfit = answered 255 answer
 
 unfoldable pub hostSheet : List ℕ → List ℕ → Answered
-hostSheet settings answer = if eqb (length answer) 20 then sheetFrom answer (settingsIn settings) else answered 255 answer
+hostSheet settings answer = if eqb (length answer) 21 then sheetFrom answer (settingsIn settings) else answered 255 answer
 
 -- a start
 abbrev pub startFrom : List ℕ → ℕ → List ℕ → List ℕ → SettingsIn → Stated
@@ -34,7 +34,7 @@ startFrom m latch state answer Settings-in.Unfit = stated 255 state answer
 
 unfoldable pub hostStart : List ℕ → List ℕ → ℕ → List ℕ → List ℕ → Stated
 hostStart settings m latch state answer =
-    if eqb (length state) 20 && eqb (length answer) 3
+    if eqb (length state) 23 && eqb (length answer) 4
     then startFrom m latch state answer (settingsIn settings)
     else stated 255 state answer
 
@@ -49,7 +49,7 @@ rowWith m state cells answer Settings-in.Unfit = drawn 255 state cells answer
 
 unfoldable pub hostRow : List ℕ → List ℕ → List ℕ → List ℕ → List ℕ → Drawn
 hostRow settings m state cells answer =
-    if eqb (length answer) 7 then rowWith m state cells answer (settingsIn settings) else drawn 255 state cells answer
+    if eqb (length answer) 8 then rowWith m state cells answer (settingsIn settings) else drawn 255 state cells answer
 
 -- the latch that a frame hands on
 abbrev pub latchFrom : ℕ → List ℕ → StateIn → Answered
@@ -57,4 +57,4 @@ latchFrom latch answer (State-in.Fit s) = answered 0 (oneNumber (latchAfter latc
 latchFrom latch answer State-in.Unfit = answered 255 answer
 
 unfoldable pub hostLatch : ℕ → List ℕ → List ℕ → Answered
-hostLatch latch state answer = if eqb (length answer) 3 then latchFrom latch answer (stateIn state) else answered 255 answer
+hostLatch latch state answer = if eqb (length answer) 4 then latchFrom latch answer (stateIn state) else answered 255 answer

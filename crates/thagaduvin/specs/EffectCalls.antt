@@ -30,7 +30,7 @@ effectWith m state effect Settings-in.Unfit = stated 255 state effect
 
 unfoldable pub hostEffect : List ℕ → List ℕ → List ℕ → List ℕ → Stated
 hostEffect settings m state effect =
-    if eqb (length effect) 10 then effectWith m state effect (settingsIn settings) else stated 255 state effect
+    if eqb (length effect) 12 then effectWith m state effect (settingsIn settings) else stated 255 state effect
 
 -- two effects joined
 abbrev pub joinFrom : List ℕ → Effect → EffectIn → Answered
@@ -43,7 +43,7 @@ joinWith second joined Effect-in.Unfit = answered 255 joined
 
 unfoldable pub hostJoin : List ℕ → List ℕ → List ℕ → Answered
 hostJoin first second joined =
-    if eqb (length joined) 10 then joinWith second joined (effectIn first) else answered 255 joined
+    if eqb (length joined) 12 then joinWith second joined (effectIn first) else answered 255 joined
 
 -- an effect applied to a latch
 abbrev pub applyFrom : ℕ → List ℕ → EffectIn → Answered
@@ -52,4 +52,4 @@ applyFrom latch answer Effect-in.Unfit = answered 255 answer
 
 unfoldable pub hostApply : List ℕ → ℕ → List ℕ → Answered
 hostApply effect latch answer =
-    if eqb (length answer) 3 then applyFrom latch answer (effectIn effect) else answered 255 answer
+    if eqb (length answer) 4 then applyFrom latch answer (effectIn effect) else answered 255 answer

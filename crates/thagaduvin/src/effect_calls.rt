@@ -18,7 +18,7 @@ pub extern "C" fn thagaduvin_effect(
 ) -> u8
     ensures { λ r. ⌜ stated r (now (state .exit)) (now (effect .exit)) ≡ hostEffect (now (settings .entry)) (now (memory .entry)) (now (state .entry)) (now (effect .entry)) ⌝ }
 {
-    if effect.len() != 10 {
+    if effect.len() != 12 {
         return 255;
     }
     match decode::settings_in(settings) {
@@ -35,7 +35,7 @@ pub extern "C" fn thagaduvin_effect(
 pub extern "C" fn thagaduvin_join(first: &[u32], second: &[u32], joined: &mut [u32]) -> u8
     ensures { λ r. ⌜ answered r (now (joined .exit)) ≡ hostJoin (now (first .entry)) (now (second .entry)) (now (joined .entry)) ⌝ }
 {
-    if joined.len() != 10 {
+    if joined.len() != 12 {
         return 255;
     }
     match effects::decode::effect_in(first) {
@@ -55,7 +55,7 @@ pub extern "C" fn thagaduvin_join(first: &[u32], second: &[u32], joined: &mut [u
 pub extern "C" fn thagaduvin_apply(effect: &[u32], latch: u16, answer: &mut [u32]) -> u8
     ensures { λ r. ⌜ answered r (now (answer .exit)) ≡ hostApply (now (effect .entry)) latch (now (answer .entry)) ⌝ }
 {
-    if answer.len() != 3 {
+    if answer.len() != 4 {
         return 255;
     }
     match effects::decode::effect_in(effect) {

@@ -18,7 +18,7 @@ mod mail_calls; // the calls of a row's text
 pub extern "C" fn thagaduvin_sheet(settings: &[u32], answer: &mut [u32]) -> u8
     ensures { λ r. ⌜ answered r (now (answer .exit)) ≡ hostSheet (now (settings .entry)) (now (answer .entry)) ⌝ }
 {
-    if answer.len() != 20 {
+    if answer.len() != 21 {
         return 255;
     }
     match decode::settings_in(settings) {
@@ -38,10 +38,10 @@ pub extern "C" fn thagaduvin_start(
 ) -> u8
     ensures { λ r. ⌜ stated r (now (state .exit)) (now (answer .exit)) ≡ hostStart (now (settings .entry)) (now (memory .entry)) latch (now (state .entry)) (now (answer .entry)) ⌝ }
 {
-    if state.len() != 20 {
+    if state.len() != 23 {
         return 255;
     }
-    if answer.len() != 3 {
+    if answer.len() != 4 {
         return 255;
     }
     match decode::settings_in(settings) {
@@ -61,7 +61,7 @@ pub extern "C" fn thagaduvin_row(
 ) -> u8
     ensures { λ r. ⌜ drawn r (now (state .exit)) (now (cells .exit)) (now (answer .exit)) ≡ hostRow (now (settings .entry)) (now (memory .entry)) (now (state .entry)) (now (cells .entry)) (now (answer .entry)) ⌝ }
 {
-    if answer.len() != 7 {
+    if answer.len() != 8 {
         return 255;
     }
     match decode::settings_in(settings) {
@@ -78,7 +78,7 @@ pub extern "C" fn thagaduvin_row(
 pub extern "C" fn thagaduvin_latch(latch: u16, state: &[u32], answer: &mut [u32]) -> u8
     ensures { λ r. ⌜ answered r (now (answer .exit)) ≡ hostLatch latch (now (state .entry)) (now (answer .entry)) ⌝ }
 {
-    if answer.len() != 3 {
+    if answer.len() != 4 {
         return 255;
     }
     match decode::state_in(state) {

@@ -22,7 +22,7 @@ shiftFrom m soft scroll answer Settings-in.Unfit = stated 255 scroll answer
 
 unfoldable pub hostShift : List ℕ → List ℕ → PointerWords → List ℕ → List ℕ → Stated
 hostShift settings m soft scroll answer =
-    if eqb (length scroll) 3 && eqb (length answer) 4
+    if eqb (length scroll) 3 && eqb (length answer) 5
     then shiftFrom m soft scroll answer (settingsIn settings)
     else stated 255 scroll answer
 
@@ -33,6 +33,6 @@ besideWith m shift soft latch state cells answer Settings-in.Unfit = stated 255 
 
 unfoldable pub hostBeside : List ℕ → List ℕ → ℤ → PointerWords → ℕ → List ℕ → List ℕ → List ℕ → Stated
 hostBeside settings m shift soft latch state cells answer =
-    if eqb (length answer) 7
+    if eqb (length answer) 8
     then besideWith m shift soft latch state cells answer (settingsIn settings)
     else stated 255 cells answer

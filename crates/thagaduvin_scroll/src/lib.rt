@@ -22,7 +22,7 @@ pub extern "C" fn thagaduvin_shift(
     if scroll.len() != 3 {
         return 255;
     }
-    if answer.len() != 4 {
+    if answer.len() != 5 {
         return 255;
     }
     let soft = PointerWords { first, second };
@@ -47,7 +47,7 @@ pub extern "C" fn thagaduvin_beside(
 ) -> u8
     ensures { λ r. ⌜ stated r (now (cells .exit)) (now (answer .exit)) ≡ hostBeside (now (settings .entry)) (now (memory .entry)) shift (record { first = first; second = second }) latch (now (state .entry)) (now (cells .entry)) (now (answer .entry)) ⌝ }
 {
-    if answer.len() != 7 {
+    if answer.len() != 8 {
         return 255;
     }
     let soft = PointerWords { first, second };

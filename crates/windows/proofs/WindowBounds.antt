@@ -52,9 +52,9 @@ abbrev Numbering : ℕ → WindowInHand → Type 0
 Numbering n Absent = Unit
 Numbering n (Present w) = w .block .number ≡ n
 
-called : (linear : Bool) (number : ℕ) (b : List ℕ) → windowOf linear number b .block .number ≡ number
+called : (linear : Bool) (number a : ℕ) (b : List ℕ) → windowOf linear number a b .block .number ≡ number
 unfolding windowOf
-called linear number b = refl
+called linear number a b = refl
 
 pub window-reads : (linear : Bool) (number least : ℕ) (p : Pointer) → number ≤ least
     → Reads (λ w. Placed w × Numbering number w) 6 (windowAt linear number least p)
@@ -62,10 +62,10 @@ unfolding windowAt
 window-reads linear number least p l =
     if-reads (null p) (λ _. dones (tt, tt)) λ _.
     bind {n = 6} {k = 0} (omega arith) (words-read linear 6 p) λ b _.
-    let w = windowOf linear number b .block in
+    let w = windowOf linear number (p .address) b .block in
     bind {n = 0} {k = 0} (omega arith) (check-reads 8 (inOrder w && leb least (w .top))) λ _ h.
     let k = both (inOrder w) (leb least (w .top)) h in
-    dones ((in-order w (k .0), omega (arith, leb-true least (w .top) (k .1), called linear number b)), called linear number b)
+    dones ((in-order w (k .0), omega (arith, leb-true least (w .top) (k .1), called linear number (p .address) b)), called linear number (p .address) b)
 
 next : (v : Window) (w : WindowInHand) → Placed w × Numbering (v .block .number + 1) w → Placed w × After (Present v) w
 next v Absent h = (tt, ended)

@@ -6,25 +6,26 @@ use lib.Dec.{ltb, leb}
 use Rattle.memory.specs.Word.{if_then_else_, high, low, at}
 use Rattle.memory.specs.declared.Pointer.{Pointer}
 use Rattle.memory.specs.Reading.{Reading, done, _>>=_, _>>_, check}
-use Rattle.memory.specs.Address.{pointer, null, words}
+use Rattle.memory.specs.Address.{pointer, null, ahead, words}
 use Rattle.windows.specs.declared.WindowBlock.{WindowBlock}
 use Rattle.windows.specs.declared.Window.{Window}
 use Rattle.windows.specs.declared.WindowInHand.{WindowInHand}
 use Rattle.windows.specs.declared.WindowInHand.the-variants.{Absent, Present}
 
 -- "Window (6). Link to the next window block (2); first window row block (2); first row high byte, last row low; first
--- column high byte, last column low." Its number is that "along the chain, from 0" (02): each block that was read counts.
-unfoldable pub windowOf : Bool → ℕ → List ℕ → Window
-windowOf linear number b = record {
+-- column high byte, last column low." Its number is that "along the chain, from 0" (02): each block that was read counts. The
+-- block is at the address a.
+unfoldable pub windowOf : Bool → (number a : ℕ) → List ℕ → Window
+windowOf linear number a b = record {
   block = record {
     number = number;
-    link = pointer linear (at b 0) (at b 1);
+    link = pointer linear a (at b 0) (at b 1);
     top = high (at b 4);
     bottom = low (at b 4);
     left = high (at b 5);
     right = low (at b 5);
   };
-  rows = pointer linear (at b 2) (at b 3);
+  rows = pointer linear (ahead linear 2 a) (at b 2) (at b 3);
 }
 
 -- rows in order; columns in order, the last at most 131
@@ -36,7 +37,7 @@ inOrder b = leb (b .top) (b .bottom) && leb (b .left) (b .right) && leb (b .righ
 unfoldable pub windowAt : Bool → ℕ → ℕ → Pointer → Reading WindowInHand
 windowAt linear number least p = if null p then done Absent else do
   b ← words linear 6 p
-  let w = windowOf linear number b
+  let w = windowOf linear number (p .address) b
   check 8 (inOrder (w .block) && leb least (w .block .top))
   done (Present w)
 

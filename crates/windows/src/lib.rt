@@ -46,7 +46,7 @@ pub fn first_window(mem: &[u16], linear: bool, p: Pointer) -> WindowRead
 }
 
 // The window in hand for a row: the next one where the row has passed the last row of this one.
-pub fn due_window(mem: &[u16], linear: bool, row: u16, in_hand: WindowInHand) -> WindowRead
+pub fn due_window(mem: &[u16], linear: bool, row: u32, in_hand: WindowInHand) -> WindowRead
     requires { ⌜ Numbered «in_hand» ⌝ }
     ensures { λ r. ⌜ windowRead r ≡ run (now (mem .entry)) (dueWindow linear row «in_hand») ⌝ }
 {
@@ -56,10 +56,10 @@ pub fn due_window(mem: &[u16], linear: bool, row: u16, in_hand: WindowInHand) ->
             words: 0,
         },
         WindowInHand::Present(w) => {
-            if (w.block.bottom as u16) < row {
+            if (w.block.bottom as u32) < row {
                 let link = w.block.link;
                 let number = w.block.number as u16 + 1;
-                window_at(mem, linear, number, w.block.bottom as u16 + 1, link)
+                window_at(mem, linear, number, w.block.bottom as u32 + 1, link)
             } else {
                 WindowRead::Read {
                     window: WindowInHand::Present(w),
@@ -79,7 +79,7 @@ pub fn in_order(b: WindowBlock) -> bool
 
 // The window whose block a pointer leads to, none where that is null; its first row is `least` or a later one. A number is at most
 // `least`, so it fits eight bits where the window may follow.
-fn window_at(mem: &[u16], linear: bool, number: u16, least: u16, p: Pointer) -> WindowRead
+fn window_at(mem: &[u16], linear: bool, number: u16, least: u32, p: Pointer) -> WindowRead
     requires { ⌜ number ≤ least ⌝ }
     ensures { λ r. ⌜ windowRead r ≡ run (now (mem .entry)) (windowAt linear number least p) ⌝ }
 {
@@ -92,7 +92,7 @@ fn window_at(mem: &[u16], linear: bool, number: u16, least: u16, p: Pointer) -> 
     let mut b = [0u16; 6];
     match memory::read_words(mem, linear, p, &mut b) {
         WordsRead::Whole => {
-            let w = window_of(linear, memory::low_byte(number), &b);
+            let w = window_of(linear, memory::low_byte(number), p.address, &b);
             let block = w.block;
             if may_follow(least, block) {
                 WindowRead::Read {
@@ -108,14 +108,15 @@ fn window_at(mem: &[u16], linear: bool, number: u16, least: u16, p: Pointer) -> 
 }
 
 // Is the window in order, and its first row `least` or a later one?
-fn may_follow(least: u16, b: WindowBlock) -> bool
+fn may_follow(least: u32, b: WindowBlock) -> bool
     ensures { λ r. ⌜ r ≡ inOrder b && leb least (b .top) ⌝ }
 {
-    in_order(b) & (least <= b.top as u16)
+    in_order(b) & (least <= b.top as u32)
 }
 
-fn window_of(linear: bool, number: u8, b: &[u16; 6]) -> Window
-    ensures { λ r. ⌜ r ≡ windowOf linear number (now (b .entry)) ⌝ }
+// The window of a block, from its number, its address and its words.
+fn window_of(linear: bool, number: u8, at: u32, b: &[u16; 6]) -> Window
+    ensures { λ r. ⌜ r ≡ windowOf linear number at (now (b .entry)) ⌝ }
 {
     let block = WindowBlock {
         number,
@@ -123,10 +124,10 @@ fn window_of(linear: bool, number: u8, b: &[u16; 6]) -> Window
         bottom: memory::low_byte(b[4]),
         left: memory::high_byte(b[5]),
         right: memory::low_byte(b[5]),
-        link: memory::pointer_of(linear, b[0], b[1]),
+        link: memory::pointer_of(linear, at, b[0], b[1]),
     };
     Window {
         block,
-        rows: memory::pointer_of(linear, b[2], b[3]),
+        rows: memory::pointer_of(linear, memory::words_ahead(linear, 2, at), b[2], b[3]),
     }
 }

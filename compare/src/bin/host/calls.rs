@@ -2,7 +2,7 @@
 
 use crate::lent::{Differs, Lent};
 use compare::bus::Used;
-use compare::host::Beside;
+use compare::host::{Beside, PART, PREFIX};
 use compare::{host, library};
 use std::fmt::{self, Debug, Formatter};
 
@@ -172,7 +172,7 @@ impl Tally {
     }
 
     fn count_parts(&mut self, effect: &[u32]) {
-        let (clear, set) = effect.split_at(5);
+        let (clear, set) = effect.split_at(PART);
         self.count(4, clear[0]);
         self.count(5, set[0]);
         self.parted += u64::from(clear != set);
@@ -218,7 +218,7 @@ pub struct Calls {
 }
 
 /// A text as it stands in a difference.
-struct Bytes<'t>(&'t [u8]);
+pub struct Bytes<'t>(pub &'t [u8]);
 
 impl Debug for Bytes<'_> {
     fn fmt(&self, to: &mut Formatter) -> fmt::Result {
@@ -388,7 +388,7 @@ impl Calls {
         ];
         self.tally.count_call(9, statuses[0]);
         if statuses[0] != host::UNFIT {
-            let given = (statuses[0] == 0).then(|| (&*scroll.ours(), &answer.ours()[2..]));
+            let given = (statuses[0] == 0).then(|| (&*scroll.ours(), &answer.ours()[PREFIX..]));
             self.tally.scrolls.count(last, &settings[5..7], given);
         }
         compare(statuses, &[scroll, answer], &given)

@@ -6,9 +6,11 @@ use crate::frame::Frame;
 use crate::{must, odd};
 use compare::generate::Rng;
 use compare::host::{
-    LATCH_ANSWER, ROW_ANSWER, SETTINGS, SHEET_ANSWER, SHEET_LINES, START_ANSWER, STATE, UNFIT,
+    LATCH_ANSWER, PREFIX, ROW_ANSWER, ROW_LINES, ROW_WORDS, SETTINGS, SHEET_ANSWER, SHEET_LINES,
+    START_ANSWER, STATE, UNFIT, WINDOW_NUMBER,
 };
-use compare::rules::CELLS;
+use compare::rules::{pointer, step, CELLS};
+use std::iter::successors;
 
 /// Frames drawn in turn of one random frame's settings and memory.
 const FRAMES: usize = 4;
@@ -31,16 +33,41 @@ pub fn latch(rng: &mut Rng) -> u16 {
     }
 }
 
+/// Most words from a pointer on that a row reads: those of a list with its fill words.
+const WORDS: usize = 300;
+
+/// Of a word missing in a frame from a start: whether it is reached from the pointer that begins where the refusal
+/// says; from a register's, or from one that begins at 0, where it says 0.
+fn told(settings: &[u32; SETTINGS], memory: &[u16], refused: &[u32]) -> bool {
+    let linear = settings[0] != 0;
+    let &[_, missing, from, ..] = refused else {
+        return false;
+    };
+    let reaches = |first: u16, second: u16| {
+        let begin = pointer(linear, first, second);
+        let mut words = successors(Some(begin), |&address| Some(step(linear, address)));
+        begin != 0 && words.by_ref().take(WORDS).any(|address| address == missing)
+    };
+    let word = |address: u32| memory.get(address as usize / 2).copied();
+    if let (Some(first), Some(second)) = (word(from), word(step(linear, from))) {
+        if reaches(first, second) {
+            return true;
+        }
+    }
+    let [top0, top1, tow0, tow1] = [5, 6, 7, 8].map(|n: usize| settings[n] as u16);
+    from == 0 && (reaches(top0, top1) || reaches(tow0, tow1))
+}
+
 /// What the rows of a frame show of their windows: a cell of source 2 has the number of the window in hand, any
 /// other one 0; and the number goes on by one with each block read.
 fn numbered(before: &[u32; STATE], after: &[u32; STATE], cells: &[u32; CELLS]) -> bool {
     let due = before[12] == 1 && before[1] > before[14];
-    let number = before[19] + u32::from(due);
+    let number = before[WINDOW_NUMBER] + u32::from(due);
     let cell = |&cell: &u32| match cell >> 20 & 3 {
         2 => cell >> 24 == number,
         _ => cell >> 24 == 0,
     };
-    (after[12] == 0 || after[19] == number) && cells.iter().all(cell)
+    (after[12] == 0 || after[WINDOW_NUMBER] == number) && cells.iter().all(cell)
 }
 
 /// Row calls from a frame's first state on, until they have drawn all lines, or one is refused, or
@@ -67,15 +94,17 @@ fn rows(
         let status = calls.row(settings, memory, &state, CELLS, ROW_ANSWER)?;
         let before = state;
         state = calls.state.left();
+        let answer: [u32; ROW_ANSWER] = calls.answer.left();
         if status == 0 {
             let right = numbered(&before, &state, &calls.cells.left());
             must(right, "cells name their window", &(before, state))?;
         } else {
+            let right = status != 7 || told(settings, memory, &answer);
+            must(right, "a missing word is told by its pointer", &answer)?;
             return Ok((End::Refused, state));
         }
-        let answer: [u32; ROW_ANSWER] = calls.answer.left();
-        drawn += answer[2];
-        words.push(answer[6]);
+        drawn += answer[ROW_LINES];
+        words.push(answer[ROW_WORDS]);
     }
     Ok((End::Drawn, state))
 }
@@ -117,13 +146,20 @@ pub fn frame(
         return Ok(refused);
     }
     if status != 0 {
+        let answer: [u32; START_ANSWER] = calls.answer.left();
+        let right = status != 7 || told(settings, memory, &answer) && answer[2] == 0;
+        must(
+            right,
+            "a start's missing word is told by a register",
+            &answer,
+        )?;
         let all = &mut calls.tally.in_turn;
         all.count(latch, latch);
         all.refused_starts += 1;
         return Ok(refused);
     }
     let began: [u32; START_ANSWER] = calls.answer.left();
-    let mut words = vec![began[2]];
+    let mut words = vec![began[PREFIX]];
     let lines = sheet[SHEET_LINES];
     let (end, state) = rows(calls, rng, settings, memory, lines, &mut words)?;
     let reached = state[0] as u16;
@@ -133,7 +169,7 @@ pub fn frame(
     };
     calls.latch(latch, &state, LATCH_ANSWER)?;
     let answer: [u32; LATCH_ANSWER] = calls.answer.left();
-    let same = answer == [0, 0, handed_on.into()];
+    let same = answer == [0, 0, 0, handed_on.into()];
     must(same, "a frame hands on its latch", &(latch, state))?;
     let all = &mut calls.tally.in_turn;
     all.count(latch, handed_on);

@@ -1,7 +1,7 @@
 //! Rows as text for mail, of frames and of none, into buffers of any length; such texts read back, damaged and
 //! cut, and texts that no row has.
 
-use crate::calls::{Calls, Checked};
+use crate::calls::{Bytes, Calls, Checked};
 use crate::must;
 use crate::odd;
 use compare::generate::Rng;
@@ -94,7 +94,7 @@ fn read_damaged(calls: &mut Calls, rng: &mut Rng, good: &[u8], at: usize) -> Che
         23 => cells < CELLS,
         _ => status == 0,
     };
-    let given = (good.escape_ascii().to_string(), at);
+    let given = (Bytes(good), at);
     must(right, "a text is refused at or after its damage", &given)
 }
 

@@ -17,9 +17,9 @@ use calls::{Calls, Checked, Difference};
 use compare::bus::Used;
 use compare::generate::Rng;
 use compare::host::{
-    Beside, APPLY_ANSWER, BUS_ANSWER, EFFECT, EFFECT_MOST, LATCH_ANSWER, MAIL_ANSWER, ROW_ANSWER,
-    SCROLL, SETTINGS, SETTINGS_MOST, SHEET_ANSWER, SHEET_EVEN, SHEET_ODD, SHIFT_ANSWER,
-    START_ANSWER, STATE, STATE_MOST, TOTALS, UNFIT,
+    Beside, APPLY_ANSWER, BUS_ANSWER, EFFECT, LATCH_ANSWER, MAIL_ANSWER, PREFIX, ROW_ANSWER,
+    SCROLL, SETTINGS, SHEET_ANSWER, SHEET_EVEN, SHEET_ODD, SHIFT_ANSWER, START_ANSWER, STATE,
+    TOTALS, UNFIT,
 };
 use compare::rules::CELLS;
 use frame::Frame;
@@ -69,17 +69,17 @@ fn draw_alone(
     let refused = calls.apply(joined, latch as u16, APPLY_ANSWER)?;
     let answer: [u32; APPLY_ANSWER] = calls.answer.left();
     if refused != 0 {
-        let same = refused == drawn.status && answer[..2] == drawn.answer[..2];
+        let same = refused == drawn.status && answer[..PREFIX] == drawn.answer[..PREFIX];
         let what = "the joined effects refuse as the row in turn";
         return must(same, what, &(joined, latch, reached));
     }
     let mut from = *reached;
-    from[0] = answer[2];
+    from[0] = answer[PREFIX];
     let alone = draw(calls, frame, &from)?;
     let same = if drawn.status == 0 {
         alone == *drawn
     } else {
-        alone.status == drawn.status && alone.answer[..2] == drawn.answer[..2]
+        alone.status == drawn.status && alone.answer[..PREFIX] == drawn.answer[..PREFIX]
     };
     must(same, "a row drawn alone is the row in turn", &from)
 }
@@ -156,9 +156,9 @@ fn row_and_effect(calls: &mut Calls, frame: &Frame, from: &[u32; STATE]) -> Chec
     let status = calls.apply(&effect, from[0] as u16, APPLY_ANSWER)?;
     let answer: [u32; APPLY_ANSWER] = calls.answer.left();
     let same = if status == 0 {
-        answer[2] == drawn.state[0] && reached[1..] == drawn.state[1..]
+        answer[PREFIX] == drawn.state[0] && reached[1..] == drawn.state[1..]
     } else {
-        answer[..2] == drawn.answer[..2]
+        answer[..PREFIX] == drawn.answer[..PREFIX]
     };
     let same = same && status == drawn.status;
     must(same, "an effect is that of its row", from)
@@ -238,10 +238,10 @@ fn odd_effects(calls: &mut Calls, rng: &mut Rng) -> Checked<()> {
 /// One call with a slice that does not fit: 255, and nothing is written.
 fn unfit(calls: &mut Calls, rng: &mut Rng, frame: &Frame, real: &[u32; STATE]) -> Checked<()> {
     let (settings, memory) = (&frame.settings, frame.memory());
-    let bad_settings = odd::unfit(rng, settings, &SETTINGS_MOST);
-    let bad_state = odd::unfit(rng, real, &STATE_MOST);
+    let bad_settings = odd::recounted(rng, settings);
+    let bad_state = odd::no_state(rng, real);
     let effect = odd::effect(rng);
-    let bad_effect = odd::unfit(rng, &effect, &EFFECT_MOST);
+    let bad_effect = odd::no_effect(rng);
     let cells = rng.pick(&[CELLS, CELLS, 0, 133]);
     let latch = rng.word();
     let soft = scroll::soft_top(rng, frame);

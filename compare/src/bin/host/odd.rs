@@ -2,8 +2,19 @@
 //! slices that do not fit.
 
 use compare::generate::Rng;
-use compare::host::{EFFECT, EFFECT_MOST, SCROLL, SETTINGS, STATE, STATE_MOST};
+use compare::host::{
+    EFFECT, PART, PART_REFUSALS, ROW_BLOCK, ROW_BLOCK_FROM, SCROLL, SETTINGS, SETTINGS_MOST, STATE,
+    STATE_MOST, WINDOW_BLOCK, WINDOW_BLOCK_FROM, WINDOW_NUMBER, WINDOW_ROW_BLOCK,
+    WINDOW_ROW_BLOCK_FROM,
+};
 use compare::rules::CELLS;
+
+/// The places of a state's pointers, and of where each begins.
+const POINTERS: [(usize, usize); 3] = [
+    (ROW_BLOCK, ROW_BLOCK_FROM),
+    (WINDOW_ROW_BLOCK, WINDOW_ROW_BLOCK_FROM),
+    (WINDOW_BLOCK, WINDOW_BLOCK_FROM),
+];
 
 /// Numbers at the ends of ranges.
 const ENDS: [u32; 28] = [
@@ -50,6 +61,9 @@ pub fn settings(rng: &mut Rng, real: &[u32; SETTINGS]) -> [u32; SETTINGS] {
         // The second edition.
         settings[17] = 1;
     }
+    if rng.once_in(8) {
+        return past_range(rng, &settings);
+    }
     for _ in 0..rng.pick(&[1, 1, 2, 3]) {
         let n = rng.below(SETTINGS);
         settings[n] = match rng.below(6) {
@@ -63,16 +77,16 @@ pub fn settings(rng: &mut Rng, real: &[u32; SETTINGS]) -> [u32; SETTINGS] {
     settings
 }
 
-/// A state with all numbers in the ranges of their places, or about so.
+/// A state of any numbers, seldom with one that makes it none.
 fn any_state(rng: &mut Rng) -> [u32; STATE] {
-    let ends = rng.once_in(3);
-    let mut state = STATE_MOST.map(|most| {
-        if ends {
-            rng.pick(&ENDS)
-        } else {
-            up_to(rng, most)
-        }
+    let ends = rng.pick(&[1, 3, 20]);
+    let mut state = STATE_MOST.map(|most| match rng.once_in(ends) {
+        true => rng.pick(&ENDS).min(most),
+        false => up_to(rng, most),
     });
+    if rng.once_in(3) {
+        state[rng.below(STATE)] = rng.pick(&ENDS);
+    }
     if rng.once_in(2) {
         sound(rng, &mut state);
     }
@@ -90,11 +104,15 @@ fn sound(rng: &mut Rng, state: &mut [u32; STATE]) {
     state[8] &= 1023;
     state[9] &= 31;
     state[10] &= 31;
-    state[11] &= 0xFF_FFFE;
     state[12] &= 1;
     window(rng, state);
-    state[17] &= 0xFF_FFFE;
-    state[18] &= 0xFF_FFFE;
+    for (pointer, from) in POINTERS {
+        state[pointer] &= 0xFF_FFFE;
+        state[from] &= 0xFF_FFFE;
+        if state[pointer] == 0 {
+            state[from] = 0;
+        }
+    }
 }
 
 /// A window's rows and columns in order: past for long, just past, in force or to come.
@@ -110,7 +128,7 @@ fn window(rng: &mut Rng, state: &mut [u32; STATE]) {
         (state[15], state[16]) = (0, CELLS as u32 - 1);
     }
     // A window's number is at most its first row.
-    state[19] = match rng.below(8) {
+    state[WINDOW_NUMBER] = match rng.below(8) {
         0 => state[13] + 1,
         1 | 2 => state[13],
         _ => up_to(rng, state[13]),
@@ -119,7 +137,8 @@ fn window(rng: &mut Rng, state: &mut [u32; STATE]) {
 
 /// An address: of a real state, near the end of memory, odd or any.
 fn address(rng: &mut Rng, real: &[u32; STATE], words: usize) -> u32 {
-    let address = rng.pick(&[real[11], real[17], real[18]]);
+    let (pointer, from) = rng.pick(&POINTERS);
+    let address = real[rng.pick(&[pointer, from])];
     match rng.below(8) {
         0 => 0,
         1 => address | 1,
@@ -133,8 +152,9 @@ fn address(rng: &mut Rng, real: &[u32; STATE], words: usize) -> u32 {
 /// Changes one thing about a state.
 fn change(rng: &mut Rng, state: &mut [u32; STATE], words: usize) {
     let real = *state;
-    match rng.below(15) {
+    match rng.below(18) {
         0 => state[0] = rng.word().into(),
+        17 => state[WINDOW_NUMBER] = rng.pick(&[0, real[13], real[13].wrapping_add(1), 255, 256]),
         1 => state[0] ^= 0x2000,
         2 => state[2] = 1,
         3 => {
@@ -146,9 +166,24 @@ fn change(rng: &mut Rng, state: &mut [u32; STATE], words: usize) {
             state[2] = 4095 - state[1];
         }
         5 => state[6] ^= 1,
-        6 => state[11] = address(rng, &real, words),
-        7 => state[17] = address(rng, &real, words),
-        8 => state[18] = address(rng, &real, words),
+        6..=8 => {
+            let (pointer, _) = rng.pick(&POINTERS);
+            state[pointer] = address(rng, &real, words);
+        }
+        14 => {
+            // Where a pointer begins: any address, odd, above 24 bits, or beside a null one.
+            let (_, from) = rng.pick(&POINTERS);
+            state[from] = address(rng, &real, words);
+        }
+        15 => {
+            let (pointer, from) = rng.pick(&POINTERS);
+            (state[pointer], state[from]) =
+                (address(rng, &real, words), up_to(rng, 0xFF_FFFF) & !1);
+        }
+        16 => {
+            let (pointer, from) = rng.pick(&POINTERS);
+            (state[pointer], state[from]) = (0, rng.pick(&[0, 0, 2, 0xFF_FFFE]));
+        }
         9 => {
             state[12] = 1;
             window(rng, state);
@@ -156,7 +191,6 @@ fn change(rng: &mut Rng, state: &mut [u32; STATE], words: usize) {
         10 => state[12] ^= 1,
         11 => state[rng.below(STATE)] = rng.pick(&ENDS),
         12 => state[rng.below(STATE)] ^= 1 << rng.below(32),
-        13 => state[19] = rng.pick(&[0, real[13], real[13].wrapping_add(1), 255, 256]),
         _ => {
             let n = rng.below(STATE);
             state[n] = up_to(rng, STATE_MOST[n]);
@@ -176,21 +210,70 @@ pub fn state(rng: &mut Rng, real: &[u32; STATE], words: usize) -> [u32; STATE] {
     state
 }
 
-/// An effect that no row need have, seldom with a number that its place cannot have.
-pub fn effect(rng: &mut Rng) -> [u32; EFFECT] {
-    let mut effect = EFFECT_MOST.map(|most| up_to(rng, most));
-    for part in [0, 5] {
-        match rng.below(4) {
-            0 => effect[part] = 0,
-            1 => (effect[part], effect[part + 3]) = (0, 1),
-            2 => effect[part..part + 5].fill(0),
-            _ => {}
+/// A part that an effect call can write.
+fn part(rng: &mut Rng) -> [u32; PART] {
+    let number = rng.pick(&PART_REFUSALS);
+    match rng.below(4) {
+        0 => [0; PART],
+        1 => [0, 0, 0, 0, 1, rng.word().into()],
+        _ => {
+            let from = if number == 7 { rng.draw() as u32 } else { 0 };
+            let row = rng.pick(&ENDS);
+            [number, row, rng.draw() as u32, from, 0, 0]
         }
     }
-    if rng.once_in(8) {
-        effect[rng.below(EFFECT)] = rng.pick(&ENDS);
-    }
+}
+
+/// An effect that no row need have.
+pub fn effect(rng: &mut Rng) -> [u32; EFFECT] {
+    let mut effect = [0; EFFECT];
+    effect[..PART].copy_from_slice(&part(rng));
+    effect[PART..].copy_from_slice(&part(rng));
     effect
+}
+
+/// A part that no effect call writes: a number of no refusal, or something that the part does not use.
+fn no_part(rng: &mut Rng) -> [u32; PART] {
+    let some = 1 + up_to(rng, u32::MAX - 1);
+    let number = rng.pick(&PART_REFUSALS);
+    let word = rng.word().into();
+    let mut part = match rng.below(3) {
+        0 => [0; PART],
+        1 => [0, 0, 0, 0, 1, word],
+        _ => [number, some, some, 0, 0, 0],
+    };
+    match rng.below(6) {
+        0 => part[0] = rng.pick(&[1, 5, 6, 14, 15, 20, 23, 24, 255, 256, 263, u32::MAX]),
+        // A row, an address or a pointer of no refusal.
+        1 => part = [0, 0, 0, 0, part[4], part[5]],
+        // A pointer of another refusal than 7.
+        2 => part = [rng.pick(&[2, 3, 4, 8, 9, 10, 11, 12, 13]), 1, 2, some, 0, 0],
+        // A word of a refusal, or of a part that keeps.
+        3 => part = [rng.pick(&[0, number]), 0, 0, 0, 0, some],
+        4 => part = [number, 0, 0, 0, 1, word],
+        // Past a mark or a word.
+        _ => {
+            part = rng.pick(&[
+                [0, 0, 0, 0, 1, some | 0x1_0000],
+                [0, 0, 0, 0, some | 2, word],
+            ])
+        }
+    }
+    if part[0] == 0 && part[4] <= 1 && part[5] <= 0xFFFF && (part[4] == 1 || part[5] == 0) {
+        part[rng.range(1, 3)] = some;
+    }
+    part
+}
+
+/// Numbers that are no effect.
+pub fn no_effect(rng: &mut Rng) -> Vec<u32> {
+    let mut effect = effect(rng);
+    if rng.once_in(4) {
+        return recounted(rng, &effect);
+    }
+    let from = rng.pick(&[0, PART]);
+    effect[from..from + PART].copy_from_slice(&no_part(rng));
+    effect.to_vec()
 }
 
 /// A shift: in range, at the ends of ranges, or any.
@@ -226,20 +309,31 @@ pub fn count(rng: &mut Rng, right: usize) -> usize {
     }
 }
 
-/// The numbers with one too high for its place, or with another count.
-pub fn unfit(rng: &mut Rng, numbers: &[u32], most: &[u32]) -> Vec<u32> {
+/// The numbers with another count.
+pub fn recounted(rng: &mut Rng, numbers: &[u32]) -> Vec<u32> {
     let mut numbers = numbers.to_vec();
-    if rng.once_in(3) {
-        numbers.resize(count(rng, most.len()), 0);
-        return numbers;
-    }
-    let n = loop {
-        let n = rng.below(most.len());
-        if most[n] < u32::MAX {
-            break n;
-        }
-    };
-    let above = u32::MAX - most[n];
-    numbers[n] = most[n] + rng.pick(&[1, 1, above, 1 + rng.clone().below(above as usize) as u32]);
+    numbers.resize(count(rng, numbers.len()), 0);
     numbers
+}
+
+/// Numbers that are no state: with another count, or one that no check judges past its field.
+pub fn no_state(rng: &mut Rng, real: &[u32; STATE]) -> Vec<u32> {
+    if rng.once_in(3) {
+        return recounted(rng, real);
+    }
+    let mut state = real.to_vec();
+    let n = rng.pick(&[0, 3, 4, 5, 6, 12]);
+    let most = STATE_MOST[n];
+    let above = u32::MAX - most;
+    state[n] = most + rng.pick(&[1, 1, above, 1 + rng.clone().below(above as usize) as u32]);
+    state
+}
+
+/// Settings with one number past its field: by one, by bits above those that count, or the highest.
+pub fn past_range(rng: &mut Rng, real: &[u32; SETTINGS]) -> [u32; SETTINGS] {
+    let mut settings = *real;
+    let n = rng.below(SETTINGS);
+    let above = settings[n] | 1 << rng.range(16, 31);
+    settings[n] = rng.pick(&[SETTINGS_MOST[n] + 1, above, above, u32::MAX]);
+    settings
 }

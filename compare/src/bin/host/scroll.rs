@@ -5,7 +5,7 @@ use crate::calls::{Calls, Checked, Difference};
 use crate::frame::Frame;
 use crate::{in_turn, must, odd};
 use compare::generate::{scroll_word, Rng};
-use compare::host::{Beside, ROW_ANSWER, SCROLL, SETTINGS, SHIFT_ANSWER, STATE};
+use compare::host::{Beside, PREFIX, ROW_ANSWER, SCROLL, SETTINGS, SHIFT_ANSWER, STATE};
 use compare::rules::{pointer, step, CELLS};
 
 /// Shift calls of one random frame's settings and memory, and how many of them may be refused.
@@ -165,11 +165,12 @@ impl Console<'_> {
                 let what = "what a shift call gives is in range";
                 must(in_range(&self.scroll), what, &given)?;
                 let soft = self.soft.map(u32::from);
-                let ended = self.scroll[..2] == [0, 0] && answer[2..] == soft;
-                let same = answer[2..] == settings[5..7];
+                let top = &answer[PREFIX..];
+                let ended = self.scroll[..2] == [0, 0] && top == soft;
+                let same = top == &settings[5..7];
                 let what = "another hard top is the soft one, without a shift";
                 must(ended || same, what, &given)?;
-                self.set_top([answer[2] as u16, answer[3] as u16]);
+                self.set_top([top[0] as u16, top[1] as u16]);
             }
             3 => self.scroll = [0, 0, rng.below(2) as u32],
             _ if rng.once_in(2) => {

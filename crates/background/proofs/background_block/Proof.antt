@@ -6,17 +6,17 @@ use borrow.Author.Needs.{needs}
 use Rattle.background.proofs.background_block.Statement.{statement}
 use Rattle.background.proofs.background_block.Tie as tie
 
-add-t19 : tie.Need-add-t19
-add-t19 c =
-    let t = sym (rw (c .before .before .before .format .given .1) at (c .before .before .before .before .before .redefinition2 .ensures)) in
-    let b = sym (rw (c .before .before .before .before .before .before .before .before .b .given .1) at (c .before .before .before .before .before .before .before .before .before .before .row-block .ensures)) in
-    let a = c .before .before .before .before .before .before .before .before .before .before .before .before .before .args in
-    omega (arith, block-words _ (a .linear) _ _ b t (λ i. c .before .before .before .before .before .before .before .before .before .before .before .before .shared-slice-known .given i .fits))
+add-t20 : tie.Need-add-t20
+add-t20 c =
+    let t = sym (rw (c .before .before .before .before .format .given .1) at (c .before .before .before .before .before .before .redefinition2 .ensures)) in
+    let b = sym (rw (c .before .before .before .before .before .before .before .before .before .b .given .1) at (c .before .before .before .before .before .before .before .before .before .before .before .row-block .ensures)) in
+    let a = c .before .before .before .before .before .before .before .before .before .before .before .before .before .before .args in
+    omega (arith, block-words _ (a .linear) _ _ b t (λ i. c .before .before .before .before .before .before .before .before .before .before .before .before .before .shared-slice-known .given i .fits))
 
 returns : tie.Need-returns
 returns c =
-    let t = sym (rw (c .before .before .before .format .given .1) at (c .before .before .before .before .before .redefinition2 .ensures)) in
-    let b = sym (rw (c .before .before .before .before .before .before .before .before .b .given .1) at (c .before .before .before .before .before .before .before .before .before .before .row-block .ensures)) in
+    let t = sym (rw (c .before .before .before .before .format .given .1) at (c .before .before .before .before .before .before .redefinition2 .ensures)) in
+    let b = sym (rw (c .before .before .before .before .before .before .before .before .before .b .given .1) at (c .before .before .before .before .before .before .before .before .before .before .before .row-block .ensures)) in
     sym (block-read _ _ _ _ b t)
 
 returns-2 : tie.Need-returns-2
@@ -35,7 +35,7 @@ background-block-spec =
     (λ c. search needs)
     (λ c κs. search needs)
     (λ c. search needs)
-    add-t19
+    add-t20
     (λ c. search needs)
     (λ c. search needs)
     returns

@@ -7,19 +7,19 @@ use borrow.Author.Needs.{needs}
 use Rattle.blocks.proofs.segments_from.Statement.{statement}
 use Rattle.blocks.proofs.segments_from.Tie as tie
 
-slice-aggregate-read-words : tie.Need-slice-aggregate-read-words
-slice-aggregate-read-words c = sym (length-take-le _ _ (omega arith))
+slice-aggregate-read-many : tie.Need-slice-aggregate-read-many
+slice-aggregate-read-many c = sym (length-take-le _ _ (omega arith))
 
 returns : tie.Need-returns
 returns c =
-    let r = c .before .before .before .before .before .before .before .read-words in
-    segments-whole _ _ _ (c .before .before .before .before .before .before .before .before .before .before .before .before .before .args .head .now) _ _ _ _ (c .before .before .before .before .before .before .before .before .before .segment-count .ensures) (length-take-le _ _ (omega arith)) _ _ _ (r .ensures)
+    let r = c .before .before .before .before .before .before .before .read-many in
+    segments-whole _ _ _ _ (c .before .before .before .before .before .before .before .before .before .before .before .before .before .before .args .head .now) _ _ (c .before .before .before .before .before .before .before .before .before .further .ensures) _ _ (c .before .before .before .before .before .before .before .before .before .before .segment-count .ensures) (length-take-le _ _ (omega arith)) _ _ _ (r .ensures)
     _ (c .pointer-of .ensures) (c .before .before .before .enum-told .given .1) (r .kept .1 .1 .1 .0)
 
 returns-2 : tie.Need-returns-2
 returns-2 c =
-    let r = c .before .before .before .before .before .read-words in
-    segments-refused _ _ _ (c .before .before .before .before .before .before .before .before .before .before .before .args .head .now) (c .before .before .before .before .before .before .before .before .before .before .before .args .redefinition) _ _ _ (c .before .before .before .before .before .before .before .segment-count .ensures) (length-take-le _ _ (omega arith)) _ _ [] (r .ensures)
+    let r = c .before .before .before .before .before .read-many in
+    segments-refused _ _ _ _ (c .before .before .before .before .before .before .before .before .before .before .before .before .args .head .now) (c .before .before .before .before .before .before .before .before .before .before .before .before .args .redefinition) _ (c .before .before .before .before .before .before .before .further .ensures) _ _ (c .before .before .before .before .before .before .before .before .segment-count .ensures) (length-take-le _ _ (omega arith)) _ _ [] (r .ensures)
     _ (c .before .fault .given .1)
 
 pub segments-from-spec : {M : Type 1} → statement M
@@ -30,8 +30,9 @@ segments-from-spec =
     (λ c κs. search needs)
     (λ c. search needs)
     (λ c. search needs)
+    (λ c κs. search needs)
     (λ c. search needs)
-    slice-aggregate-read-words
+    slice-aggregate-read-many
     (λ c κs. search needs)
     (λ c. search needs)
     (λ c. search needs)

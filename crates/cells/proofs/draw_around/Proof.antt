@@ -53,7 +53,7 @@ unfolding rowCells
 returns c =
     let a = c .before .before .before .before .before .before .before .before .before .args in
     let r = c .before .before .before .before .before .draw-run in (
-      (omega arith, omega arith),
+      ((rw (c .before .number .given .1) at (r .ensures .0)) .0, omega arith),
       sym (bind-refused (a .words) (a .mem .now) _ _ (sym (rw (c .before .number .given .1) at (r .ensures .1)))),
     )
 
@@ -63,7 +63,7 @@ returns-2 c =
     let a = c .before .before .before .before .before .before .before .before .before .before .before .before .before .before .before .before .before .args in
     let r = c .before .before .before .before .before .before .before .before .before .before .before .before .before .draw-run in
     let s = c .before .before .before .before .before .draw-run2 in (
-      (omega arith, omega arith),
+      ((rw (c .before .number2 .given .1) at (s .ensures .0)) .0, omega arith),
       sym (bind-given (a .words) (a .mem .now) _ _ (sym (rw (c .before .before .before .before .before .before .before .before .before .before2 .given .1) at (r .ensures .1)))
           ∙ bind-refused _ (a .mem .now) _ _
           (sym (rw (c .before .number2 .given .1, c .before .before .before .before .before .before .before .with-list .ensures, whole-all (a .settings .hidden) 0 (segmentsOf (a .settings .linear) (a .n) (a .window .now))) at (s .ensures .1)))),

@@ -11,6 +11,11 @@ use borrow.Author.Needs.{needs}
 use Rattle.cells.proofs.draw_cells.Statement.{statement}
 use Rattle.cells.proofs.draw_cells.Tie as tie
 
+cast-t20 : tie.Need-cast-t20
+cast-t20 c =
+    let bound = (rw (c .before .number .given .1) at (c .before .before .before .before .before .walk-cells .ensures .0)) .0 in
+    search (needs, bound)
+
 returns : tie.Need-returns
 returns c = ap finish (rw (c .before .number .given .1) at (c .before .before .before .before .before .walk-cells .ensures .1))
 
@@ -29,6 +34,7 @@ draw-cells-spec =
     (tie.spec
     (λ c κs. search needs)
     (λ c. search needs)
+    cast-t20
     (λ c. search needs)
     (λ c. search needs)
     returns

@@ -28,7 +28,7 @@ unfolding segment
 returns c =
     let a = c .before .before .before .before .before .before .before .before .before .before .before .before .before .before .before .args in
     let r = c .before .before .before .before .before .draw-codes in (
-      (omega arith, omega arith),
+      ((rw (c .before .number .given .1) at (r .ensures .0)) .0, omega arith),
       sym (bind-refused (a .words) (a .mem .now) _ _
           (sym (rw (c .before .number .given .1, c .before .before .before .before .before .before .before .before .before .with-list .ensures, c .before .before .before .before .before .before .before .code-count .ensures .0, c .before .before .before .before .before .before .before .before .before .before .before .before .width .ensures) at (r .ensures .1)))),
     )

@@ -4,7 +4,7 @@ use Rattle.effects.proofs.next_effect.Statement.{statement}
 use Rattle.effects.proofs.next_effect.Tie as tie
 
 returns : tie.Need-returns
-returns c = rw (← c .before .before .before .before .before .before .before .before .before .row-effect .ensures, c .before .before .before .before .before .before .write-effect .ensures, c .before .before .step .ensures)
+returns c = rw (← c .before .before .before .before .before .before .before .before .before .row-effect .ensures, c .before .before .before .before .before .before .step .ensures, c .before .before .write-effect .ensures)
 
 pub next-effect-spec : {M : Type 1} → statement M
 next-effect-spec =

@@ -2,9 +2,9 @@
 use mathlib.Core.Path.{_≡_, sym, _∙_}
 use Prim.Native.Nat.{_≤_, _-_, _*_}
 use native.Mathlib.Omega.{arith}
-use native.Mathlib.Nat.{sub-zero, sub-add-eq}
-use lib.ListN.{drop}
 use Rattle.blocks.specs.RowBlock.{segmentsOf}
+use Rattle.blocks.specs.Answers.{segmentsPast}
+use Rattle.blocks.proofs.BlockLaws.{segments-all}
 use Rattle.layout.specs.Layout.{segmentsOn}
 use Rattle.layout.proofs.LayoutLaws.{width-byte}
 use Rattle.latch.specs.Latch.{join, overSegments}
@@ -16,39 +16,39 @@ use Rattle.latch.proofs.side_latch.Tie as tie
 abbrev Inv-loop : tie.InvT-loop
 Inv-loop mem settings side segments count n made₀ at₀ i₀ made at i =
     (i ≤ n) × (at ≤ 255 * i)
-    × (join made₀ (overSegments settings mem (segmentsOn side (settings .hidden) 0 (segmentsOf (settings .linear) n segments)))
-    ≡ join made (overSegments settings mem (segmentsOn side (settings .hidden) at (segmentsOf (settings .linear) (n - i) (drop (5 * i) segments)))))
+    × (join made₀ (overSegments settings mem (segmentsOn side (settings .hidden) 0 (segmentsOf (settings .linear) count segments)))
+    ≡ join made (overSegments settings mem (segmentsOn side (settings .hidden) at (segmentsPast (settings .linear) count segments i))))
 
 abbrev μ-loop : tie.MeasureT-loop
 μ-loop mem settings side segments count n made₀ at₀ i₀ made at i = n - i
 
 loop-holds : tie.Need-loop-holds Inv-loop μ-loop
-loop-holds c = (omega arith, omega arith, rw sub-zero)
+loop-holds c = (omega arith, omega arith, rw segments-all)
 
 add-at : tie.Need-add-at Inv-loop μ-loop
 add-at c =
     let y = c .before .before .before .before .before .before in
     let g = c .before .before .before .before .segment-at in
-    omega (arith, y .loop .inv .0, y .loop .inv .1, y .before .before .fits .count, width-byte (y .before .before .args .settings .hidden) (g .result) (g .ok .1 .1 .1 .1 .0 .1) (g .ok .1 .1 .1 .1 .1 .0 .1), c .before .before .before .width .ensures)
+    omega (arith, y .loop .inv .0, y .loop .inv .1, y .before .before .before .good .1 .1 .1 .1 .0 .1 .1 .0 .1, width-byte (y .before .before .before .args .settings .hidden) (g .result) (g .ok .1 .1 .1 .1 .0 .1) (g .ok .1 .1 .1 .1 .1 .0 .1), c .before .before .before .width .ensures)
 
 loop-again : tie.Need-loop-again Inv-loop μ-loop
 loop-again c =
     let y = c .before .before .before .before .before .before in
-    let a = y .before .before .args in
+    let a = y .before .before .before .args in
     let l = y .loop in
     let g = c .before .before .before .before .segment-at in (
       omega (arith, c .before .before .before .before .before .loop-test .taken),
       omega (arith, width-byte (a .settings .hidden) (g .result) (g .ok .1 .1 .1 .1 .0 .1) (g .ok .1 .1 .1 .1 .1 .0 .1), c .before .before .before .width .ensures),
       l .inv .2
-          ∙ side-more (a .settings) (a .mem .now) (a .side) (l .at) (a .count - l .i) (l .i) (a .segments .now) (l .made) (omega arith)
-          ∙ rw (c .join .ensures, c .before .chosen-latch .ensures, c .before .before .on-side .ensures, c .before .before .before .width .ensures, g .ensures, sub-add-eq),
+          ∙ side-more (a .settings) (a .mem .now) (a .side) (a .count) (a .segments .now) (l .at) (l .i) (l .made) (omega arith)
+          ∙ rw (c .join .ensures, c .before .chosen-latch .ensures, c .before .before .on-side .ensures, c .before .before .before .width .ensures, g .ensures),
     )
 
 returns : tie.Need-returns Inv-loop μ-loop
 returns c =
-    let a = c .before .before .before .args in
+    let a = c .before .before .before .before .args in
     let l = c .before .loop in
-    sym (l .inv .2 ∙ side-none (a .settings) (a .mem .now) (a .side) (l .at) (a .count - l .i) (l .i) (a .segments .now) (l .made) (omega arith))
+    sym (l .inv .2 ∙ side-none (a .settings) (a .mem .now) (a .side) (a .count) (a .segments .now) (l .at) (l .i) (l .made) (omega arith))
 
 pub side-latch-spec : {M : Type 1} → statement M
 side-latch-spec =
@@ -56,6 +56,7 @@ side-latch-spec =
     (tie.spec
     Inv-loop
     μ-loop
+    (λ c. search needs)
     loop-holds
     (λ c κs. search needs)
     (λ c κs. search needs)

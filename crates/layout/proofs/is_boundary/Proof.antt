@@ -1,11 +1,10 @@
 use mathlib.Core.Path.{_≡_, sym, _∙_}
 use Prim.Native.Nat.{_≤_, _-_, _*_}
-use native.Mathlib.Nat.{sub-zero, sub-add-eq}
 use native.Mathlib.Omega.{arith}
-use lib.ListN.{drop}
 use borrow.Author.Tests.{eq-eqb, ne-eqb}
 use Rattle.blocks.specs.RowBlock.{segmentsOf}
-use Rattle.blocks.proofs.BlockLaws.{segments-more, segments-none}
+use Rattle.blocks.specs.Answers.{segmentsPast}
+use Rattle.blocks.proofs.BlockLaws.{segments-all, segments-more, segments-none}
 use Rattle.layout.specs.Layout.{boundary}
 use Rattle.layout.proofs.LayoutLaws.{width-byte}
 use borrow.Author.Needs.{needs}
@@ -15,45 +14,45 @@ use Rattle.layout.proofs.is_boundary.Tie as tie
 abbrev Inv-loop : tie.InvT-loop
 Inv-loop linear hidden words count place n at₀ i₀ at i =
     (i ≤ n) × (at ≤ 255 * i)
-    × (boundary hidden 0 (segmentsOf linear n words) place ≡ boundary hidden at (segmentsOf linear (n - i) (drop (5 * i) words)) place)
+    × (boundary hidden 0 (segmentsOf linear count words) place ≡ boundary hidden at (segmentsPast linear count words i) place)
 
 abbrev μ-loop : tie.MeasureT-loop
 μ-loop linear hidden words count place n at₀ i₀ at i = n - i
 
 loop-holds : tie.Need-loop-holds Inv-loop μ-loop
-loop-holds c = (omega arith, omega arith, rw sub-zero)
+loop-holds c = (omega arith, omega arith, rw segments-all)
 
 returns : tie.Need-returns Inv-loop μ-loop
 unfolding boundary
 returns c =
     let l = c .before .before .loop in
-    let a = c .before .before .before .args in
-    let g = segments-more (a .linear) (a .count - l .i) (l .i) (a .words .now) (omega arith) in
+    let a = c .before .before .before .before .args in
+    let g = segments-more (a .linear) (a .count) (a .words .now) (l .i) (omega arith) in
     sym (l .inv .2 ∙ rw (g, eq-eqb _ _ (c .if1 .taken)))
 
 add-at : tie.Need-add-at Inv-loop μ-loop
 add-at c =
     let s = c .before .segment-at in
-    omega (arith, width-byte (c .before .before .before .before .before .args .hidden) (s .result) (search needs) (search needs), c .width .ensures)
+    omega (arith, width-byte (c .before .before .before .before .before .before .args .hidden) (s .result) (search needs) (search needs), c .width .ensures)
 
 loop-again : tie.Need-loop-again Inv-loop μ-loop
 unfolding boundary
 loop-again c =
     let l = c .before .before .before .before .loop in
-    let a = c .before .before .before .before .before .args in
+    let a = c .before .before .before .before .before .before .args in
     let s = c .before .segment-at in
-    let g = segments-more (a .linear) (a .count - l .i) (l .i) (a .words .now) (omega arith) in (
+    let g = segments-more (a .linear) (a .count) (a .words .now) (l .i) (omega arith) in (
       omega arith,
       omega (arith, width-byte (a .hidden) (s .result) (search needs) (search needs), c .width .ensures),
-      l .inv .2 ∙ rw (g, ne-eqb _ _ (c .before .before .if1 .left), c .width .ensures, s .ensures, sub-add-eq),
+      l .inv .2 ∙ rw (g, ne-eqb _ _ (c .before .before .if1 .left), c .width .ensures, s .ensures),
     )
 
 returns-2 : tie.Need-returns-2 Inv-loop μ-loop
 unfolding boundary
 returns-2 c =
     let l = c .before .loop in
-    let a = c .before .before .args in
-    sym (l .inv .2 ∙ rw (segments-none (a .linear) (a .count - l .i) (l .i) (a .words .now) (omega arith)))
+    let a = c .before .before .before .args in
+    sym (l .inv .2 ∙ rw (segments-none (a .linear) (a .count) (a .words .now) (l .i) (omega arith)))
 
 pub is-boundary-spec : {M : Type 1} → statement M
 is-boundary-spec =
@@ -61,6 +60,7 @@ is-boundary-spec =
     (tie.spec
     Inv-loop
     μ-loop
+    (λ c. search needs)
     loop-holds
     returns
     (λ c κs. search needs)

@@ -9,7 +9,7 @@ returns : tie.Need-returns
 unfolding refusalLine
 returns c =
     let e = c .put-end .ensures in
-    (e .0, e .1, e .2 ∙ rw (c .before .before .put-hex .ensures .1, c .before .before .before .before .before .put-number2 .ensures .1, c .before .before .before .before .before .before .before .before .before .put-number .ensures .1))
+    (e .0, e .1, e .2 ∙ rw (c .before .before .put-origin .ensures .1, c .before .before .before .before .put-hex .ensures .1, c .before .before .before .before .before .before .before .put-number2 .ensures .1, c .before .before .before .before .before .before .before .before .before .before .before .put-number .ensures .1))
 
 pub refusal-line-spec : {M : Type 1} → statement M
 refusal-line-spec =
@@ -22,6 +22,7 @@ refusal-line-spec =
     (λ c. search needs)
     (λ c κs. search needs)
     (λ c. search needs)
+    (λ c κs. search needs)
     (λ c κs. search needs)
     (λ c κs. search needs)
     returns)

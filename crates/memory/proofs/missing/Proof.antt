@@ -1,4 +1,4 @@
--- Refusal 7 has the address of the word that is due.
+-- Refusal 7 has the address of the word that is due, and tells where its pointer begins.
 use mathlib.Core.Path.{refl}
 use Rattle.memory.proofs.missing.Statement.{statement}
 use Rattle.memory.proofs.missing.Tie as tie

@@ -12,15 +12,15 @@ due-window-requires : tie.Need-due-window-requires
 due-window-requires c κs = numbered (c .before .args .fields) (c .before .pre .0)
 
 next-fields-requires : tie.Need-next-fields-requires
-next-fields-requires c κs = c .before .before .before .before .before .before .before .before .before .before .before .before .before .before .before .before .before .before .before .pre .1
+next-fields-requires c κs = c .before .before .before .before .before .before .before .before .before .before .before .before .before .before .before .before .before .before .before .before .pre .1
 
 -- the words of the window block, of the row block with its redefinition, and of the window row block
 few-words : (c : tie.After-struct-known)
-    → c .before .before .before .before .before .before .before .before .before .before .before .before .before .before .before .before .before .before .window .given .0 .1 .0
-    + c .before .before .before .before .before .before .before .before .before .before .before .before .before .block .given .0 .0 .words
-    + c .before .before .before .before .before .before .before .before .overlay .given .0 .1 .1 .0 ≤ 167
+    → c .before .before .before .before .before .before .before .before .before .before .before .before .before .before .before .before .before .before .before .window .given .0 .1 .0
+    + c .before .before .before .before .before .before .before .before .before .before .before .before .before .before .block .given .0 .0 .words
+    + c .before .before .before .before .before .before .before .before .before .overlay .given .0 .1 .1 .0 ≤ 167
 few-words c =
-    let x = c .before .before .before .before .before .before .before .before in
+    let x = c .before .before .before .before .before .before .before .before .before in
     let y = x .before .before .before .before .before in
     let z = y .before .before .before .before .before in
     let o = sym (rw (x .overlay .given .1) at (x .before .before .overlay-row .ensures)) in
@@ -29,15 +29,15 @@ few-words c =
     let a = z .before .before .before .before in
     plan-words _ (a .args .settings) (a .args .fields) w g o (λ i. z .before .before .before .shared-slice-known .given i .fits) (a .pre .0)
 
-add-t31 : tie.Need-add-t31
-add-t31 c = omega (arith, few-words c)
-
 add-t32 : tie.Need-add-t32
 add-t32 c = omega (arith, few-words c)
 
+add-t33 : tie.Need-add-t33
+add-t33 c = omega (arith, few-words c)
+
 returns : tie.Need-returns
 returns c =
-    let x = c .before .before .before .before .before .before .before .before in
+    let x = c .before .before .before .before .before .before .before .before .before in
     let y = x .before .before .before .before .before in
     let z = y .before .before .before .before .before in
     let o = sym (rw (x .overlay .given .1) at (x .before .before .overlay-row .ensures)) in
@@ -48,7 +48,7 @@ returns c =
 
 returns-2 : tie.Need-returns-2
 returns-2 c =
-    let x = c .before .before .before .before .before in
+    let x = c .before .before .before .before .before .before in
     let y = x .before .before .before .before .before in
     let z = y .before .before .before .before .before in
     let o = sym (rw (x .overlay .given .1) at (x .before .before .overlay-row .ensures)) in
@@ -86,8 +86,8 @@ plan-blocks-spec =
     (λ c κs. search needs)
     next-fields-requires
     (λ c κs. search needs)
-    add-t31
     add-t32
+    add-t33
     (λ c κs. search needs)
     (λ c. search needs)
     (λ c. search needs)

@@ -1,11 +1,14 @@
--- What the plan has checked lets the cells be drawn; the answer and the buffer are then those of the whole row.
+-- What the plan has checked lets the cells be drawn; the answer and the buffer are then those of the whole row. A refusal puts back what was
+-- kept of the buffer.
 use mathlib.Core.Path.{sym, ap, ap₂, _∙_}
 use mathlib.Core.List.{List}
 use Prim.Native.Nat.{ℕ}
 use lib.Dec.{lit<}
+use Rattle.memory.specs.Reading.{refusal}
 use Rattle.state.specs.State.{stateOf}
 use Rattle.cells.specs.Answers.{Finished}
 use Rattle.cells.proofs.FinishLaws.{finish-refused, finish-given}
+use Rattle.row.specs.declared.RowAnswer.the-variants.{Refused}
 use Rattle.row.specs.Row.{withCursor, called, answerOf, answered}
 use Rattle.row.proofs.RowBound.{row-bound}
 use Rattle.row.proofs.RowLaws.{plan-drawable, planned-refused, planned-drawn}
@@ -15,29 +18,30 @@ use Rattle.row.proofs.draw_planned.Tie as tie
 
 draw-cells-requires : tie.Need-draw-cells-requires
 draw-cells-requires c κs =
-    let a = c .before .before .before .before .before .before .args in
-    let k = plan-drawable (a .settings) (a .mem .now) (λ i. c .before .before .before .before .before .shared-slice-known .given i .fits) (a .state .fields) (c .before .before .before .before .before .before .pre .1) in
-    rw (c .before .code-settings .ensures) (k .0, (k .1, search needs))
+    let a = c .before .before .before .before .before .before .before .before .before .before .before .args in
+    let k = plan-drawable (a .settings) (a .mem .now) (λ i. c .before .before .before .before .before .before .before .before .before .before .shared-slice-known .given i .fits) (a .state .fields) (c .before .before .before .before .before .before .before .before .before .before .before .pre .1) in
+    rw (c .before .before .before .before .before .code-settings .ensures) (k .0, (k .1, search needs))
 
 returns : tie.Need-returns
 returns c =
-    let a = c .before .before .before .before .before .before .before .before .before .before .before .before .args in (
+    let a = c .before .before .before .before .before .before .before .before .before .before .before .before .before .before .before .before .before .before .before .before .before .before .before .args in (
       lit< tt,
       rw (c .refusal-of .ensures)
-          (ap (answered (a .settings) (a .state .fields) (a .buffer .now)) (planned-refused (a .settings) (a .mem .now) (a .state) (c .before .before .before .before .before .before .before .before .before .before .before .before .pre .1) (finish-refused _ (rw (c .before .before .fault .given .1, c .before .before .before .before .before .before .before .code-settings .ensures) at (c .before .before .before .before .before .draw-cells .ensures))))),
+          (ap (called (Refused (refusal (a .state .fields .row) (c .before .before .before .before .before .before .before .fault .given .0 .0)))) (c .before .before .before .copy-cells2 .ensures ∙ c .before .before .before .before .before .before .before .before .before .before .before .before .before .before .copy-cells .ensures)
+          ∙ ap (answered (a .settings) (a .state .fields) (a .buffer .now)) (planned-refused (a .settings) (a .mem .now) (a .state) (c .before .before .before .before .before .before .before .before .before .before .before .before .before .before .before .before .before .before .before .before .before .before .before .pre .1) (finish-refused _ (rw (c .before .before .before .before .before .before .before .fault .given .1, c .before .before .before .before .before .before .before .before .before .before .before .before .before .before .before .before .before .code-settings .ensures) at (c .before .before .before .before .before .before .before .before .before .before .before .draw-cells .ensures))))),
     )
 
 returns-2 : tie.Need-returns-2
 returns-2 c =
-    let a = c .before .before .before .before .before .before .before .before .before .before .before .before .before .before .before .before .before .before .before .before .args in
-    let g = finish-given _ (rw (c .before .before .before .before .before .before .before .before .before .before .latch .given .1, c .before .before .before .before .before .before .before .before .before .before .before .before .before .before .before .code-settings .ensures) at (c .before .before .before .before .before .before .before .before .before .before .before .before .before .draw-cells .ensures)) in
-    let e = planned-drawn (a .settings) (a .mem .now) (a .state) (c .before .before .before .before .before .before .before .before .before .before .before .before .before .before .before .before .before .before .before .before .pre .1) (g .is) in
-    let k = row-bound (a .settings) (a .mem .now) (λ i. c .before .before .before .before .before .before .before .before .before .before .before .before .before .before .before .before .before .before .before .shared-slice-known .given i .fits) (a .state) _ _ (sym e) in
+    let a = c .before .before .before .before .before .before .before .before .before .before .before .before .before .before .before .before .before .before .before .before .before .before .args in
+    let g = finish-given _ (rw (c .before .before .before .before .before .before .latch .given .1, c .before .before .before .before .before .before .before .before .before .before .before .before .before .before .before .before .code-settings .ensures) at (c .before .before .before .before .before .before .before .before .before .before .draw-cells .ensures)) in
+    let e = planned-drawn (a .settings) (a .mem .now) (a .state) (c .before .before .before .before .before .before .before .before .before .before .before .before .before .before .before .before .before .before .before .before .before .before .pre .1) (g .is) in
+    let k = row-bound (a .settings) (a .mem .now) (λ i. c .before .before .before .before .before .before .before .before .before .before .before .before .before .before .before .before .before .before .before .before .before .shared-slice-known .given i .fits) (a .state) _ _ (sym e) in
     rw (c .row-answer .ensures) (
       k .0,
-      ap₂ (λ (latch : ℕ) (cs : List ℕ). called (answerOf (a .state .fields .row) (a .p .lines) (a .p .format) (c .before .before .before .before .before .before .before .before .before .before .latch .given .0 .1 .1 .0) (stateOf latch (a .p .next))) cs)
+      ap₂ (λ (latch : ℕ) (cs : List ℕ). called (answerOf (a .state .fields .row) (a .p .lines) (a .p .format) (c .before .before .before .before .before .before .latch .given .0 .1 .1 .0) (stateOf latch (a .p .next))) cs)
           (ap (λ (f : Finished). f .latch) (g .same))
-          (c .before .before .before .copy-cells .ensures ∙ c .before .before .before .before .before .before .before .mark-cursor .ensures ∙ ap (λ (f : Finished). withCursor (a .settings) (a .state .fields) (f .cells)) (g .same))
+          (c .before .before .before .mark-cursor .ensures ∙ ap (λ (f : Finished). withCursor (a .settings) (a .state .fields) (f .cells)) (g .same))
           ∙ ap (answered (a .settings) (a .state .fields) (a .buffer .now)) e,
     )
 
@@ -47,15 +51,16 @@ draw-planned-spec =
     (tie.spec
     (λ c κs. search needs)
     (λ c. search needs)
+    (λ c κs. search needs)
     draw-cells-requires
     (λ c. search needs)
-    (λ c κs. search needs)
-    (λ c. search needs)
-    (λ c. search needs)
-    (λ c κs. search needs)
     (λ c. search needs)
     (λ c κs. search needs)
     (λ c κs. search needs)
+    (λ c. search needs)
+    (λ c κs. search needs)
+    (λ c κs. search needs)
+    (λ c. search needs)
     returns
     (λ c. search needs)
     returns-2)

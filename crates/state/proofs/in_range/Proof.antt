@@ -5,7 +5,7 @@ use Rattle.state.proofs.in_range.Tie as tie
 
 returns : tie.Need-returns
 unfolding inRange
-returns c = rw (c .before .before .format-in-range .ensures, c .before .is-address .ensures, c .window-in-range .ensures)
+returns c = rw (c .before .before .format-in-range .ensures, c .before .pointer-in-range .ensures, c .window-in-range .ensures)
 
 pub in-range-spec : {M : Type 1} → statement M
 in-range-spec =

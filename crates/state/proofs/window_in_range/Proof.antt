@@ -11,7 +11,7 @@ returns-2 : tie.Need-returns-2
 unfolding windowInRange
 returns-2 c =
     let y = c .before .before .before in
-    rw (y .before .before .before .in-hand .given .1, y .in-order .ensures, c .before .is-address .ensures, c .is-address2 .ensures)
+    rw (y .before .before .before .in-hand .given .1, y .in-order .ensures, c .before .pointer-in-range .ensures, c .pointer-in-range2 .ensures)
 
 pub window-in-range-spec : {M : Type 1} → statement M
 window-in-range-spec =

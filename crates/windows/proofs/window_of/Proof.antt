@@ -1,3 +1,4 @@
+-- Each field is made of its words; the pointers begin where their words stand.
 use Rattle.windows.specs.Window.{windowOf}
 use borrow.Author.Needs.{needs}
 use Rattle.windows.proofs.window_of.Statement.{statement}
@@ -6,7 +7,7 @@ use Rattle.windows.proofs.window_of.Tie as tie
 returns : tie.Need-returns
 unfolding windowOf
 returns c =
-    rw (c .pointer-of2 .ensures, c .before .before .before .pointer-of .ensures, c .before .before .before .before .before .before .low-byte2 .ensures, c .before .before .before .before .before .before .before .before .high-byte2 .ensures, c .before .before .before .before .before .before .before .before .before .before .low-byte .ensures, c .before .before .before .before .before .before .before .before .before .before .before .before .high-byte .ensures)
+    rw (c .pointer-of2 .ensures, c .before .before .before .words-ahead .ensures, c .before .before .before .before .pointer-of .ensures, c .before .before .before .before .before .before .before .low-byte2 .ensures, c .before .before .before .before .before .before .before .before .before .high-byte2 .ensures, c .before .before .before .before .before .before .before .before .before .before .before .low-byte .ensures, c .before .before .before .before .before .before .before .before .before .before .before .before .before .high-byte .ensures)
 
 pub window-of-spec : {M : Type 1} → statement M
 window-of-spec =
@@ -22,6 +23,7 @@ window-of-spec =
     (λ c κs. search needs)
     (λ c. search needs)
     (λ c. search needs)
+    (λ c κs. search needs)
     (λ c κs. search needs)
     (λ c. search needs)
     (λ c. search needs)

@@ -1,6 +1,6 @@
 -- The word of the list is taken where it has bit 15, refused where it has not or is missing.
 use mathlib.Core.Path.{ap, sym, _∙_}
-use Prim.Native.Nat.{_+_}
+use Prim.Native.Nat.{_+_, _<_}
 use native.Mathlib.Omega.{arith}
 use Rattle.memory.specs.Reading.{given}
 use Rattle.codes.specs.Codes.{taking}
@@ -35,10 +35,11 @@ returns-2 c =
 
 returns-3 : tie.Need-returns-3
 returns-3 c =
-    let a = c .before .before .before .before .before .before .before .args in (
-      (omega arith, omega arith),
-      rw (c .missing .ensures) (sym (fill-absent (a .words) (a .mem .now) (a .settings) (a .fill) (a .end) (soFar (a .pen) (a .cells .now))
-          (sym (c .before .before .before .word-at .ensures) ∙ c .before .enum-told .given .1))),
+    let small : c .before .missing .result .from < 4294967296 = search needs in
+    let a = c .before .before .before .before .before .before .before .before .args in (
+      (omega (arith, small), omega arith),
+      rw (c .before .missing .ensures) (sym (fill-absent (a .words) (a .mem .now) (a .settings) (a .fill) (a .end) (soFar (a .pen) (a .cells .now))
+          (sym (c .before .before .before .before .word-at .ensures) ∙ c .before .before .enum-told .given .1))),
     )
 
 pub fill-by-word-spec : {M : Type 1} → statement M
@@ -53,6 +54,7 @@ fill-by-word-spec =
     (λ c. search needs)
     (λ c. search needs)
     (λ c κs. search needs)
+    (λ c. search needs)
     (λ c. search needs)
     returns
     returns-2

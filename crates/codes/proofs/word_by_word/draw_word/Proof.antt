@@ -34,7 +34,7 @@ returns : tie.Need-returns Inv-loop μ-loop
 returns c =
     let a = c .before .before .before .before .before .before .before .before .before .before .before .before .args in
     let l = c .before .before .before .before .before .before .before .before .before .loop in (
-      (omega arith, omega arith),
+      ((rw (c .before .number .given .1) at (c .before .before .before .before .before .examine-code .ensures .0)) .0, omega arith),
       sym (l .inv .4
           ∙ bytes-refused (l .read) (a .mem .now) (a .settings) (a .room .source) (a .room .end) (bytes (a .w)) (a .n) (l .i) (soFar (l .current) (l .cells))
           (c .before .before .before .before .before .before .before .before .loop-test .taken) (c .before .before .before .before .before .before .before .before .before .before .before .before .pre .2) (sym (rw (c .before .number .given .1, c .before .before .before .before .before .before .before .code-at .ensures) at (c .before .before .before .before .before .examine-code .ensures .1)))),

@@ -1,6 +1,6 @@
 -- Each turn takes one word with its one or two codes: what is left to draw from here is the whole segment's.
 use mathlib.Core.Path.{_≡_, refl, sym, _∙_}
-use Prim.Native.Nat.{_+_, _*_, _≤_}
+use Prim.Native.Nat.{_+_, _*_, _≤_, _<_}
 use native.Mathlib.Omega.{arith}
 use lib.ListN.{length}
 use Rattle.memory.specs.Reading.{runFrom}
@@ -24,12 +24,13 @@ loop-holds c = (refl, c .before .before .pre .1, omega arith, refl)
 
 returns : tie.Need-returns Inv-loop μ-loop
 returns c =
-    let a = c .before .before .before .before .before .before .before .before .args in
-    let l = c .before .before .before .before .before .loop in (
-      (omega arith, omega arith),
-      rw (c .missing .ensures) (sym (l .inv .3
-          ∙ codes-absent (l .read) (a .mem .now) (a .settings) (a .room .source) (a .room .end) (l .at) (soFar (l .current) (l .cells)) (l .left) (c .before .before .before .before .loop-test .taken)
-          (sym (c .before .before .before .word-at .ensures) ∙ c .before .enum-told .given .1))),
+    let small : c .before .missing .result .from < 4294967296 = search needs in
+    let a = c .before .before .before .before .before .before .before .before .before .args in
+    let l = c .before .before .before .before .before .before .loop in (
+      (omega (arith, small), omega arith),
+      rw (c .before .missing .ensures) (sym (l .inv .3
+          ∙ codes-absent (l .read) (a .mem .now) (a .settings) (a .room .source) (a .room .end) (l .at) (soFar (l .current) (l .cells)) (l .left) (c .before .before .before .before .before .loop-test .taken)
+          (sym (c .before .before .before .before .word-at .ensures) ∙ c .before .before .enum-told .given .1))),
     )
 
 draw-word-requires : tie.Need-draw-word-requires Inv-loop μ-loop
@@ -41,7 +42,7 @@ returns-2 : tie.Need-returns-2 Inv-loop μ-loop
 returns-2 c =
     let a = c .before .before .before .before .before .before .before .before .before .before .before .before .before .before .before .before .args in
     let l = c .before .before .before .before .before .before .before .before .before .before .before .before .before .loop in (
-      (omega arith, omega arith),
+      ((rw (c .before .number .given .1) at (c .before .before .before .before .before .draw-word .ensures .0)) .0, omega arith),
       sym (l .inv .3
           ∙ codes-refused (l .read) (a .mem .now) (a .settings) (a .room .source) (a .room .end) (l .at) (soFar (l .current) (l .cells)) _
           (sym (c .before .before .before .before .before .before .before .before .before .before .before .word-at .ensures) ∙ c .before .before .before .before .before .before .before .before .before .w .given .1) (l .left) (c .before .before .before .before .before .before .before .before .before .before .before .before .loop-test .taken)
@@ -90,6 +91,7 @@ draw-word-by-word-spec =
     (λ c. search needs)
     (λ c. search needs)
     (λ c κs. search needs)
+    (λ c. search needs)
     (λ c. search needs)
     returns
     (λ c κs. search needs)

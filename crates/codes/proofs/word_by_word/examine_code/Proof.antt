@@ -1,7 +1,7 @@
 -- A code that takes a word of the list is examined by that word, and one that takes none by the latch. The latch comes first: a code
 -- may have it only where it invokes none or has no list, whatever room is left.
 use mathlib.Core.Path.{ap, sym, _∙_}
-use Prim.Native.Nat.{_+_}
+use Prim.Native.Nat.{_+_, _<_}
 use native.Mathlib.Omega.{arith}
 use Rattle.memory.specs.Reading.{given}
 use Rattle.codes.specs.Codes.{taking}
@@ -38,10 +38,11 @@ returns c =
 
 returns-2 : tie.Need-returns-2
 returns-2 c =
-    let a = c .before .before .before .before .before .before .before .before .before .before .args in (
-      (omega arith, omega arith),
-      rw (c .missing .ensures) (sym (examine-absent (a .words) (a .mem .now) (a .settings) (a .room .source) (a .room .end) (a .code) (soFar (a .pen) (a .cells .now))
-          (rw (c .before .before .before .before .before .before .before .invokes .ensures) at (c .before .before .before .before .before .if1 .taken)) (sym (c .before .before .before .word-at .ensures) ∙ c .before .enum-told .given .1))),
+    let small : c .before .missing .result .from < 4294967296 = search needs in
+    let a = c .before .before .before .before .before .before .before .before .before .before .before .args in (
+      (omega (arith, small), omega arith),
+      rw (c .before .missing .ensures) (sym (examine-absent (a .words) (a .mem .now) (a .settings) (a .room .source) (a .room .end) (a .code) (soFar (a .pen) (a .cells .now))
+          (rw (c .before .before .before .before .before .before .before .before .invokes .ensures) at (c .before .before .before .before .before .before .if1 .taken)) (sym (c .before .before .before .before .word-at .ensures) ∙ c .before .before .enum-told .given .1))),
     )
 
 pub examine-code-spec : {M : Type 1} → statement M
@@ -56,6 +57,7 @@ examine-code-spec =
     (λ c. search needs)
     (λ c. search needs)
     (λ c κs. search needs)
+    (λ c. search needs)
     (λ c κs. search needs)
     (λ c. search needs)
     returns

@@ -1,4 +1,4 @@
--- Each part comes from its five numbers by `part_at`.
+-- Each part comes from its six numbers by `part_at`.
 use Rattle.effects.specs.EffectNumbers.{effectAt}
 use borrow.Author.Needs.{needs}
 use Rattle.effects.proofs.decode.effect_at.Statement.{statement}
@@ -6,7 +6,7 @@ use Rattle.effects.proofs.decode.effect_at.Tie as tie
 
 returns : tie.Need-returns
 unfolding effectAt
-returns c = rw (c .before .before .before .before .before .before .part-at .ensures, c .part-at2 .ensures)
+returns c = rw (c .before .before .before .before .before .before .before .part-at .ensures, c .part-at2 .ensures)
 
 pub effect-at-spec : {M : Type 1} → statement M
 effect-at-spec =
@@ -17,7 +17,9 @@ effect-at-spec =
     (λ c. search needs)
     (λ c. search needs)
     (λ c. search needs)
+    (λ c. search needs)
     (λ c κs. search needs)
+    (λ c. search needs)
     (λ c. search needs)
     (λ c. search needs)
     (λ c. search needs)

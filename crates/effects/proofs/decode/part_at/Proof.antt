@@ -18,7 +18,6 @@ part-at-spec =
     tie.close
     (tie.spec
     (λ c. search needs)
-    (λ c. search needs)
     returns
     (λ c. search needs)
     returns-2

@@ -10,13 +10,12 @@ returns-2 : tie.Need-returns-2
 returns-2 c = rw (c .before .part .given .1)
 
 returns-3 : tie.Need-returns-3
-returns-3 c = rw (c .before .before .before .part2 .given .1)
+returns-3 c = rw (c .before .before .part2 .given .1)
 
 pub part-numbers-spec : {M : Type 1} → statement M
 part-numbers-spec =
     tie.close
     (tie.spec
-    (λ c. search needs)
     (λ c. search needs)
     (λ c. search needs)
     (λ c. search needs)

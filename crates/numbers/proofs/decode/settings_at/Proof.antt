@@ -1,5 +1,4 @@
--- Each field is the number at its place, which its limit keeps within the field's type; interlace mode and edition are their
--- callees'.
+-- Each field is the number at its place, as much of it as the field holds; interlace mode, edition and HTD are their callees'.
 use Rattle.numbers.specs.Decode.{settingsAt}
 use borrow.Author.Needs.{needs}
 use Rattle.numbers.proofs.decode.settings_at.Statement.{statement}
@@ -8,8 +7,19 @@ use Rattle.numbers.proofs.decode.settings_at.Tie as tie
 returns : tie.Need-returns
 unfolding settingsAt
 returns c =
-    let e = c .before .before .before .before .before .before .before .before .before .before .before .before .before .before .before .before in
-    rw (e .edition-of .ensures, e .before .before .interlace-of .ensures)
+    let e = c .before .before .before .before .before .before .before .before in
+    let h7 = e .before in
+    let h6 = h7 .before .before in
+    let h5 = h6 .before .before in
+    let h4 = h5 .before .before in
+    let h3 = h4 .before .before in
+    let h2 = h3 .before .before in
+    let h1 = h2 .before .before in
+    let edition = h1 .before .before in
+    rw (e .htd-at .ensures, h7 .held7 .ensures, h6 .held6 .ensures)
+    (rw (h5 .held5 .ensures, h4 .held4 .ensures, h3 .held3 .ensures)
+    (rw (h2 .held2 .ensures, h1 .held .ensures)
+    (rw (edition .edition-of .ensures, edition .before .before .interlace-of .ensures))))
 
 pub settings-at-spec : {M : Type 1} → statement M
 settings-at-spec =
@@ -20,21 +30,20 @@ settings-at-spec =
     (λ c. search needs)
     (λ c κs. search needs)
     (λ c. search needs)
+    (λ c κs. search needs)
     (λ c. search needs)
+    (λ c κs. search needs)
     (λ c. search needs)
+    (λ c κs. search needs)
     (λ c. search needs)
+    (λ c κs. search needs)
     (λ c. search needs)
+    (λ c κs. search needs)
     (λ c. search needs)
+    (λ c κs. search needs)
     (λ c. search needs)
-    (λ c. search needs)
-    (λ c. search needs)
-    (λ c. search needs)
-    (λ c. search needs)
-    (λ c. search needs)
-    (λ c. search needs)
-    (λ c. search needs)
-    (λ c. search needs)
-    (λ c. search needs)
+    (λ c κs. search needs)
+    (λ c κs. search needs)
     (λ c. search needs)
     (λ c. search needs)
     (λ c. search needs)

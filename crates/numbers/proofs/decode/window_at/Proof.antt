@@ -1,4 +1,4 @@
--- The number at place 12 decides as in `windowAt`; each field of a window is the number at its place.
+-- The number at place 12 decides as in `windowAt`.
 use borrow.Author.Tests.{eq-eqb, ne-eqb}
 use Rattle.numbers.specs.Decode.{windowAt}
 use borrow.Author.Needs.{needs}
@@ -7,7 +7,7 @@ use Rattle.numbers.proofs.decode.window_at.Tie as tie
 
 returns : tie.Need-returns
 unfolding windowAt
-returns c = rw (eq-eqb _ _ (c .before .before .before .before .before .before .before .if1 .taken))
+returns c = rw (c .held-at .ensures, eq-eqb _ _ (c .before .if1 .taken))
 
 returns-2 : tie.Need-returns-2
 unfolding windowAt
@@ -18,17 +18,6 @@ window-at-spec =
     tie.close
     (tie.spec
     (λ c. search needs)
-    (λ c. search needs)
-    (λ c. search needs)
-    (λ c. search needs)
-    (λ c. search needs)
-    (λ c. search needs)
-    (λ c. search needs)
-    (λ c. search needs)
-    (λ c. search needs)
-    (λ c. search needs)
-    (λ c. search needs)
-    (λ c. search needs)
-    (λ c. search needs)
+    (λ c κs. search needs)
     returns
     returns-2)

@@ -1,5 +1,5 @@
 -- Each test of the code is one of `hostEffect`'s: the effect's length, then whether settings and state fit; `next_effect` gives the rest. A
--- state that fits has 20 numbers, so the next one can be written over it.
+-- state that fits has 23 numbers, so the next one can be written over it.
 use mathlib.Core.Path.{sym, _∙_}
 use borrow.Author.Tests.{eq-eqb, ne-eqb}
 use Rattle.thagaduvin.specs.EffectCalls.{hostEffect}
