@@ -25,15 +25,18 @@ static const uint16_t memory[WORDS] = {
 };
 
 static uint64_t totals[THAGADUVIN_BUS_TOTALS]; /* all 0: no row yet */
+static uint32_t list[THAGADUVIN_LIST];         /* of the addresses read; this program looks at none */
 
 /* Draws a screen and hands in its rows; the status of the first call that is refused, or 0. */
 static uint8_t screen(uint32_t number, uint16_t burst) {
     uint32_t state[THAGADUVIN_STATE], cells[THAGADUVIN_CELLS], began[THAGADUVIN_START_ANSWER], row[THAGADUVIN_ROW_ANSWER];
     uint64_t answer[THAGADUVIN_BUS_ANSWER];
-    uint8_t status = thagaduvin_start(settings, THAGADUVIN_SETTINGS, memory, WORDS, 0, state, THAGADUVIN_STATE, began, THAGADUVIN_START_ANSWER);
+    uint8_t status = thagaduvin_start(settings, THAGADUVIN_SETTINGS, memory, WORDS, 0, state, THAGADUVIN_STATE, list,
+                                      THAGADUVIN_LIST, began, THAGADUVIN_START_ANSWER);
     uint32_t words = began[THAGADUVIN_START_WORDS]; /* they go with row 0 */
     while (status == 0 && state[THAGADUVIN_LEFT] != 0) {
-        status = thagaduvin_row(settings, THAGADUVIN_SETTINGS, memory, WORDS, state, THAGADUVIN_STATE, cells, THAGADUVIN_CELLS, row, THAGADUVIN_ROW_ANSWER);
+        status = thagaduvin_row(settings, THAGADUVIN_SETTINGS, memory, WORDS, state, THAGADUVIN_STATE, cells, THAGADUVIN_CELLS,
+                                list, THAGADUVIN_LIST, row, THAGADUVIN_ROW_ANSWER);
         if (status != 0) break;
         words += row[THAGADUVIN_ROW_WORDS];
         status = thagaduvin_bus(burst, words, number, row[THAGADUVIN_ANSWER_ROW], totals, THAGADUVIN_BUS_TOTALS, answer, THAGADUVIN_BUS_ANSWER);

@@ -28,14 +28,18 @@ static const uint16_t memory[WORDS] = {
     AT(0x70) = 0x8002,
 };
 
+static uint32_t list[THAGADUVIN_LIST]; /* of the addresses read; this program looks at none */
+
 /* Draws a frame from a latch, and gives the latch that it hands on. */
 static uint16_t frame(int number, uint16_t latch) {
     uint32_t state[THAGADUVIN_STATE], cells[THAGADUVIN_CELLS], began[THAGADUVIN_START_ANSWER], row[THAGADUVIN_ROW_ANSWER];
     uint32_t handed[THAGADUVIN_LATCH_ANSWER];
-    if (thagaduvin_start(settings, THAGADUVIN_SETTINGS, memory, WORDS, latch, state, THAGADUVIN_STATE, began, THAGADUVIN_START_ANSWER))
+    if (thagaduvin_start(settings, THAGADUVIN_SETTINGS, memory, WORDS, latch, state, THAGADUVIN_STATE, list,
+                         THAGADUVIN_LIST, began, THAGADUVIN_START_ANSWER))
         return latch; /* a refused start: no state, and the latch stays */
     while (state[THAGADUVIN_LEFT] != 0) {
-        if (thagaduvin_row(settings, THAGADUVIN_SETTINGS, memory, WORDS, state, THAGADUVIN_STATE, cells, THAGADUVIN_CELLS, row, THAGADUVIN_ROW_ANSWER))
+        if (thagaduvin_row(settings, THAGADUVIN_SETTINGS, memory, WORDS, state, THAGADUVIN_STATE, cells, THAGADUVIN_CELLS, list,
+                           THAGADUVIN_LIST, row, THAGADUVIN_ROW_ANSWER))
             break; /* a refused row ends the frame */
         if (row[THAGADUVIN_ANSWER_ROW] != 0) continue;
         printf("frame %d:", number);

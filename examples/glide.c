@@ -93,6 +93,8 @@ static int refused(uint8_t status, const uint32_t *answer) {
     return status;
 }
 
+static uint32_t list[THAGADUVIN_LIST]; /* of the addresses read; this program looks at none */
+
 /* One frame: shift call, start, rows, the row beside the cut, and the latch for the next frame. */
 static int frame(int number, uint16_t soft) {
     uint32_t state[THAGADUVIN_STATE], rows[SHOWN][THAGADUVIN_CELLS], cut[THAGADUVIN_CELLS];
@@ -106,15 +108,15 @@ static int frame(int number, uint16_t soft) {
     settings[THAGADUVIN_TOP_SECOND] = moved[THAGADUVIN_HARD_SECOND];
 
     /* The frame's own rows are those of the hard top; the shift moves none of their cells. */
-    status = thagaduvin_start(settings, THAGADUVIN_SETTINGS, memory, WORDS, latch, state, THAGADUVIN_STATE, began, THAGADUVIN_START_ANSWER);
+    status = thagaduvin_start(settings, THAGADUVIN_SETTINGS, memory, WORDS, latch, state, THAGADUVIN_STATE, list, THAGADUVIN_LIST, began, THAGADUVIN_START_ANSWER);
     if (status != 0) return refused(status, began);
     for (int y = 0; y < SHOWN; y++) {
-        status = thagaduvin_row(settings, THAGADUVIN_SETTINGS, memory, WORDS, state, THAGADUVIN_STATE, rows[y], THAGADUVIN_CELLS, row,
-                                THAGADUVIN_ROW_ANSWER);
+        status = thagaduvin_row(settings, THAGADUVIN_SETTINGS, memory, WORDS, state, THAGADUVIN_STATE, rows[y], THAGADUVIN_CELLS, list,
+                                THAGADUVIN_LIST, row, THAGADUVIN_ROW_ANSWER);
         if (status != 0) return refused(status, row);
     }
     status = thagaduvin_beside(settings, THAGADUVIN_SETTINGS, memory, WORDS, shift, 0, soft, latch, state, THAGADUVIN_STATE, cut,
-                               THAGADUVIN_CELLS, beside, THAGADUVIN_ROW_ANSWER);
+                               THAGADUVIN_CELLS, list, THAGADUVIN_LIST, beside, THAGADUVIN_ROW_ANSWER);
     if (status != 0) return refused(status, beside);
     thagaduvin_latch(latch, state, THAGADUVIN_STATE, handed, THAGADUVIN_LATCH_ANSWER);
     latch = handed[THAGADUVIN_HANDED_ON];

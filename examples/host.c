@@ -20,14 +20,17 @@ int main(void) {
         AT(0x60) = 0x4180, 0x4281,
         AT(0x70) = 0x2000, 0x8002,
     };
+    static uint32_t list[THAGADUVIN_LIST]; /* of the addresses read; this program looks at none */
     uint32_t state[THAGADUVIN_STATE], cells[THAGADUVIN_CELLS];
     uint32_t began[THAGADUVIN_START_ANSWER], answer[THAGADUVIN_ROW_ANSWER];
     uint32_t *told = began, words = 0, columns = settings[THAGADUVIN_HTD] - settings[THAGADUVIN_HSD];
-    uint8_t status = thagaduvin_start(settings, THAGADUVIN_SETTINGS, memory, 16384, 0, state, THAGADUVIN_STATE, began, THAGADUVIN_START_ANSWER);
+    uint8_t status = thagaduvin_start(settings, THAGADUVIN_SETTINGS, memory, 16384, 0, state, THAGADUVIN_STATE, list,
+                                      THAGADUVIN_LIST, began, THAGADUVIN_START_ANSWER);
     if (status == 0) words = began[THAGADUVIN_START_WORDS];
     while (status == 0 && state[THAGADUVIN_LEFT] != 0) {
         told = answer;
-        status = thagaduvin_row(settings, THAGADUVIN_SETTINGS, memory, 16384, state, THAGADUVIN_STATE, cells, THAGADUVIN_CELLS, answer, THAGADUVIN_ROW_ANSWER);
+        status = thagaduvin_row(settings, THAGADUVIN_SETTINGS, memory, 16384, state, THAGADUVIN_STATE, cells, THAGADUVIN_CELLS,
+                                list, THAGADUVIN_LIST, answer, THAGADUVIN_ROW_ANSWER);
         if (status != 0) break;
         words += answer[THAGADUVIN_ROW_WORDS];
         printf("row %u lines %u attr %03X words %u\n", answer[THAGADUVIN_ANSWER_ROW], answer[THAGADUVIN_ROW_LINES],

@@ -3,11 +3,11 @@
  * A slice is a pointer and its count of elements, one argument after the other. No pointer is null, also where the count is 0. A
  * slice that a call writes (not const) overlaps no other slice of that call.
  *
- * Every call gives a status: 0, accepted; 1 to 14 but 5, 20, 21, 23 and 24, the number of the refusal; 255, a slice has not the count
+ * Every call gives a status: 0, accepted; 1 to 16 but 5, 20, 21 and 23 to 25, the number of the refusal; 255, a slice has not the count
  * that its table says, a state's latch, cursor, fill or mark of a window is past its range, an effect is none that an effect call writes,
  * or the mark of totals is above 1. 255 is judged before all, and writes nothing. Any other number past its range is refused as document
  * 01 says: among settings refusal 2, in a state refusal 3. A refusal writes the row and two addresses into the answer and nothing else:
- * state, scroll and cells stay as they were. The count of cells is judged by refusal 1, not by 255. */
+ * state, scroll, cells and list stay as they were. The count of cells is judged by refusal 1 and that of a list by refusal 25, not by 255. */
 #ifndef THAGADUVIN_H
 #define THAGADUVIN_H
 
@@ -131,6 +131,11 @@ enum {
  * cursor; 31..24 the number of the window along the chain, from 0, where the source is 2, else 0. */
 enum { THAGADUVIN_CELLS = 132 };
 
+/* The list of a start, a row or a row beside the cut: the byte addresses of the words read, in order, one for each. The answer's words say
+ * how many were written; places past them stay, and a refusal, 7 and 13 too, leaves all of them. Another count is refusal 25: in a start
+ * first of all, in a row just after 1. */
+enum { THAGADUVIN_LIST = 12000 };
+
 /* The answer of a writer or a reader of a row's text: the text's length, or the count of cells; of refusal 24 the offset. */
 enum {
     THAGADUVIN_MAIL_COUNT,
@@ -204,21 +209,22 @@ enum {
 /* The settings sheet. */
 uint8_t thagaduvin_sheet(const uint32_t *settings, size_t settings_count, uint32_t *answer, size_t answer_count);
 
-/* A frame's first state, into `state`, whatever stood there. The word at the byte address a is memory[a / 2]. `latch` is the latch that
+/* A frame's first state, into `state`, whatever stood there, and the addresses of the words read into `list`. The word at the byte address a is memory[a / 2]. `latch` is the latch that
  * the frame before handed on, 0 for the first frame after reset; any is taken, and the state's latch is it. A refused start gives no
  * state, and the frame hands on `latch`: the console keeps it for the next start. */
 uint8_t thagaduvin_start(const uint32_t *settings, size_t settings_count, const uint16_t *memory, size_t memory_count,
-                         uint16_t latch, uint32_t *state, size_t state_count, uint32_t *answer, size_t answer_count);
+                         uint16_t latch, uint32_t *state, size_t state_count, uint32_t *list, size_t list_count, uint32_t *answer,
+                         size_t answer_count);
 
-/* The row of `state`: its cells into `cells`, and the next state into `state`. */
+/* The row of `state`: its cells into `cells`, the next state into `state`, and the addresses of the words read into `list`. */
 uint8_t thagaduvin_row(const uint32_t *settings, size_t settings_count, const uint16_t *memory, size_t memory_count,
-                       uint32_t *state, size_t state_count, uint32_t *cells, size_t cells_count, uint32_t *answer,
-                       size_t answer_count);
+                       uint32_t *state, size_t state_count, uint32_t *cells, size_t cells_count, uint32_t *list, size_t list_count,
+                       uint32_t *answer, size_t answer_count);
 
 /* The latch that a frame hands on to the next start, from the `latch` that it was started with and the state that it ended with: the
  * state's latch where no line is left, else `latch`, since a refused frame hands on the latch it was started with, and so does one that
- * is left half way. A frame ends at its first refused row, even if rows are drawn from that state later; a call refused 1 is no row and
- * ends no frame. The status is 0 or 255. */
+ * is left half way. A frame ends at its first refused row, even if rows are drawn from that state later; a call refused 1 or 25 is no row
+ * and ends no frame. The status is 0 or 255. */
 uint8_t thagaduvin_latch(uint16_t latch, const uint32_t *state, size_t state_count, uint32_t *answer, size_t answer_count);
 
 /* The effect of the row of `state` on any latch, into `effect`; and the next state into `state`, all but its latch, which stays. Where
@@ -254,6 +260,13 @@ uint8_t thagaduvin_write_mail(const uint32_t *settings, size_t settings_count, c
 uint8_t thagaduvin_read_mail(const uint8_t *text, size_t text_count, uint16_t *cells, size_t cells_count, uint32_t *answer,
                              size_t answer_count);
 
+/* A word of memory is written by one of two desks that share it: `word` at the byte address `address`, where that is even, in the writer's own
+ * span and in memory. A span has its first and its last byte address and those between; a first one above the last is an empty span. The status
+ * is 0, 16 (the two spans share an address; judged first) or 15 (any other write); refused, nothing is written. A frame of the other desk whose
+ * lists have no address of the writer's span is what it would be without this call. */
+uint8_t thagaduvin_write_word(uint16_t *memory, size_t memory_count, uint32_t own_first, uint32_t own_last, uint32_t other_first,
+                              uint32_t other_last, uint32_t address, uint16_t word);
+
 /* The calls of a soft scroll are in a library of their own, libthagaduvin_scroll.a; all others in libthagaduvin.a. */
 
 /* The shift call, before each frame: from the last frame's scroll to this one's, in `scroll`, and the frame's hard top into the answer;
@@ -267,14 +280,16 @@ uint8_t thagaduvin_shift(const uint32_t *settings, size_t settings_count, const 
                          uint16_t soft_first, uint16_t soft_second, uint32_t *scroll, size_t scroll_count, uint32_t *answer,
                          size_t answer_count);
 
-/* The row beside the cut, of a frame that `shift` moves: its cells into `cells`, a second row buffer, and an answer as a row's. `shift`
+/* The row beside the cut, of a frame that `shift` moves: its cells into `cells`, a second row buffer, the addresses of the words read into
+ * `list`, and an answer as a row's. `shift`
  * above 0 (up): the row after the frame's last, given one line; `state` is the state that the frame ended with, and the soft top and
  * `latch` are not looked at. `shift` below 0 (down): row 0 of a start at the soft top from `latch`, the latch that the frame was started
- * with; the words are the start's and the row's together, and any slice may stand for `state`. `shift` 0: no row; the answer is all 0
- * (lines 0 says so), and settings, state and cells are not judged but for 255. No state is written: a refusal here and the latch that
+ * with; the words and the addresses are the start's and then the row's, written once both are accepted, and any slice may stand for `state`.
+ * `shift` 0: no row; the answer is all 0 (lines 0 says so), and settings, state, cells and list are not judged but for 255. No state is written: a refusal here and the latch that
  * this row leaves are no part of the frame's. */
 uint8_t thagaduvin_beside(const uint32_t *settings, size_t settings_count, const uint16_t *memory, size_t memory_count,
                           int32_t shift, uint16_t soft_first, uint16_t soft_second, uint16_t latch, const uint32_t *state,
-                          size_t state_count, uint32_t *cells, size_t cells_count, uint32_t *answer, size_t answer_count);
+                          size_t state_count, uint32_t *cells, size_t cells_count, uint32_t *list, size_t list_count, uint32_t *answer,
+                          size_t answer_count);
 
 #endif

@@ -2,6 +2,7 @@
 //! the slices are; a caller keeps to it, so each pointer with its count is a slice.
 
 use compare::bus::Used;
+use compare::desks::{Span, Spans};
 use compare::host::{self, Beside};
 use std::slice::{from_raw_parts, from_raw_parts_mut};
 
@@ -27,6 +28,8 @@ unsafe extern "C" fn thagaduvin_start(
     latch: u16,
     state: *mut u32,
     state_count: usize,
+    list: *mut u32,
+    list_count: usize,
     answer: *mut u32,
     answer_count: usize,
 ) -> u8 {
@@ -35,6 +38,7 @@ unsafe extern "C" fn thagaduvin_start(
         from_raw_parts(memory, memory_count),
         latch,
         from_raw_parts_mut(state, state_count),
+        from_raw_parts_mut(list, list_count),
         from_raw_parts_mut(answer, answer_count),
     )
 }
@@ -49,6 +53,8 @@ unsafe extern "C" fn thagaduvin_row(
     state_count: usize,
     cells: *mut u32,
     cells_count: usize,
+    list: *mut u32,
+    list_count: usize,
     answer: *mut u32,
     answer_count: usize,
 ) -> u8 {
@@ -57,6 +63,7 @@ unsafe extern "C" fn thagaduvin_row(
         from_raw_parts(memory, memory_count),
         from_raw_parts_mut(state, state_count),
         from_raw_parts_mut(cells, cells_count),
+        from_raw_parts_mut(list, list_count),
         from_raw_parts_mut(answer, answer_count),
     )
 }
@@ -162,6 +169,8 @@ unsafe extern "C" fn thagaduvin_beside(
     state_count: usize,
     cells: *mut u32,
     cells_count: usize,
+    list: *mut u32,
+    list_count: usize,
     answer: *mut u32,
     answer_count: usize,
 ) -> u8 {
@@ -176,8 +185,29 @@ unsafe extern "C" fn thagaduvin_beside(
         from_raw_parts(memory, memory_count),
         &from,
         from_raw_parts_mut(cells, cells_count),
+        from_raw_parts_mut(list, list_count),
         from_raw_parts_mut(answer, answer_count),
     )
+}
+
+#[no_mangle]
+unsafe extern "C" fn thagaduvin_write_word(
+    memory: *mut u16,
+    memory_count: usize,
+    own_first: u32,
+    own_last: u32,
+    other_first: u32,
+    other_last: u32,
+    address: u32,
+    word: u16,
+) -> u8 {
+    let span = |first, last| Span { first, last };
+    let spans = Spans {
+        own: span(own_first, own_last),
+        other: span(other_first, other_last),
+    };
+    let memory = from_raw_parts_mut(memory, memory_count);
+    host::write_word(memory, &spans, address, word)
 }
 
 #[no_mangle]

@@ -3,6 +3,7 @@
 
 use crate::rules::{self, Edition, Fields, Interlace, Pointer, Settings, State, Window, CELLS};
 use crate::script;
+use crate::trail::PLACES;
 
 /// A xorshift generator.
 #[derive(Clone)]
@@ -64,6 +65,8 @@ pub struct Shape {
     pub columns: usize,
     /// How many cases in a hundred are damaged.
     pub damaged: usize,
+    /// Word number from which blocks are laid in a memory below one page.
+    pub first: usize,
 }
 
 impl Shape {
@@ -75,6 +78,7 @@ impl Shape {
             lines: 90,
             columns: 132,
             damaged: 40,
+            first: 0,
         }
     }
 
@@ -85,6 +89,7 @@ impl Shape {
         lines: 40,
         columns: 20,
         damaged: 40,
+        first: 0,
     };
 
     /// Two pages and a part of a third: lists can cross page ends.
@@ -94,6 +99,7 @@ impl Shape {
         lines: 90,
         columns: 132,
         damaged: 25,
+        first: 0,
     };
 
     /// All that 24 bits address: lists can also wrap at FFFFFE.
@@ -103,6 +109,7 @@ impl Shape {
         lines: 90,
         columns: 132,
         damaged: 25,
+        first: 0,
     };
 }
 
@@ -113,8 +120,8 @@ pub struct Case {
     pub memory: Vec<u16>,
     /// The state to begin with, or the start's.
     pub state: Option<State>,
-    /// Cells in the row buffer of each call.
-    pub buffers: Vec<usize>,
+    /// Cells in the row buffer and places in the list of each call.
+    pub buffers: Vec<(usize, usize)>,
     /// Tops of the page, for a soft scroll: the main block of the settings, and others.
     pub tops: Vec<[u16; 2]>,
 }
@@ -173,9 +180,10 @@ struct Image {
 }
 
 impl Image {
-    fn new(rng: &mut Rng, linear: bool, words: usize) -> Image {
+    fn new(rng: &mut Rng, linear: bool, shape: &Shape) -> Image {
+        let words = shape.memory;
         let mut ends = Vec::new();
-        let mut next = 1 + rng.below(16);
+        let mut next = shape.first + 1 + rng.below(16);
         let pages = words / PAGE;
         if pages > 0 {
             next = rng.below(pages) * PAGE + 700;
@@ -461,7 +469,7 @@ fn split(rng: &mut Rng, total: usize, edges: &[usize]) -> Vec<usize> {
 impl Frame {
     fn new(rng: &mut Rng, shape: &Shape, fault: Fault) -> Frame {
         let settings = good_settings(rng, shape);
-        let image = Image::new(rng, settings.linear, shape.memory);
+        let image = Image::new(rng, settings.linear, shape);
         let mut frame = Frame {
             settings,
             image,
@@ -971,6 +979,16 @@ fn frame(rng: &mut Rng, shape: &Shape) -> Frame {
     Frame::new(rng, shape, fault)
 }
 
+/// A count of cells that is not a row's.
+pub fn cells(rng: &mut Rng) -> usize {
+    rng.pick(&[0, 1, 131, 133, 264])
+}
+
+/// A count of places that is not a list's.
+pub fn places(rng: &mut Rng) -> usize {
+    rng.pick(&[0, 1, 132, PLACES - 1, PLACES + 1, 13_000])
+}
+
 /// A random case for library calls.
 pub fn case(rng: &mut Rng, shape: &Shape) -> Case {
     let frame = frame(rng, shape);
@@ -978,12 +996,11 @@ pub fn case(rng: &mut Rng, shape: &Shape) -> Case {
     let calls = rng.range(1, 16);
     let careless = rng.once_in(4);
     let buffers = (0..calls)
-        .map(|_| {
-            if careless && rng.once_in(3) {
-                rng.pick(&[0, 1, 131, 133, 264])
-            } else {
-                CELLS
-            }
+        .map(|_| match rng.below(4) {
+            0 if careless => (cells(rng), PLACES),
+            1 if careless => (CELLS, places(rng)),
+            2 if careless && rng.once_in(3) => (cells(rng), places(rng)),
+            _ => (CELLS, PLACES),
         })
         .collect();
     Case {

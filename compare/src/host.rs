@@ -4,12 +4,14 @@
 //! its range they refuse: 2 of settings, 3 of a state.
 
 use crate::bus::{Largest, Taken, Totals, Used};
+use crate::desks::{self, Spans};
 use crate::mail;
 use crate::rules::{
     self, Edition, Effect, Field, Fields, Interlace, Part, Pointer, Refusal, Row, Settings, Sheet,
     State, Window,
 };
 use crate::scroll::{self, Scroll};
+pub use crate::trail::PLACES;
 
 /// The status of a slice with a wrong count, of a state that is none, or of an effect that is none.
 pub const UNFIT: u8 = 255;
@@ -80,8 +82,9 @@ fn within<'n, const N: usize>(numbers: &'n [u32], most: &[u32; N]) -> Option<&'n
     (!above).then_some(numbers)
 }
 
+/// The settings of numbers: none of another count, and no good ones where a number is past its field.
 #[inline]
-fn settings_of(numbers: &[u32]) -> Option<Settings> {
+pub fn settings_of(numbers: &[u32]) -> Option<Settings> {
     let Some(n) = within(numbers, &SETTINGS_MOST) else {
         return (numbers.len() == SETTINGS).then_some(NOT_GOOD);
     };
@@ -112,8 +115,9 @@ fn settings_of(numbers: &[u32]) -> Option<Settings> {
     })
 }
 
+/// The state of numbers, if they make one.
 #[inline]
-fn state_of(numbers: &[u32]) -> Option<State> {
+pub fn state_of(numbers: &[u32]) -> Option<State> {
     let n = within(numbers, &STATE_MOST)?;
     let pointer = |address: usize, from: usize| Pointer {
         address: n[address],
@@ -357,6 +361,7 @@ pub fn start(
     memory: &[u16],
     latch: u16,
     state: &mut [u32],
+    list: &mut [u32],
     answer: &mut [u32],
 ) -> u8 {
     let Ok(state) = <&mut [u32; STATE]>::try_from(state) else {
@@ -368,7 +373,7 @@ pub fn start(
     let Some(settings) = settings_of(settings) else {
         return UNFIT;
     };
-    match rules::start(&settings, memory, latch) {
+    match rules::start(&settings, memory, latch, list) {
         Ok(start) => {
             write_state(&start.state, state);
             *answer = [0, 0, 0, start.words];
@@ -385,6 +390,7 @@ pub fn row(
     memory: &[u16],
     state: &mut [u32],
     cells: &mut [u32],
+    list: &mut [u32],
     answer: &mut [u32],
 ) -> u8 {
     let Ok(answer) = <&mut [u32; ROW_ANSWER]>::try_from(answer) else {
@@ -399,7 +405,7 @@ pub fn row(
     let Some(mut next) = state_of(state) else {
         return UNFIT;
     };
-    match rules::row(&settings, memory, &mut next, cells) {
+    match rules::row(&settings, memory, &mut next, cells, list) {
         Ok(row) => {
             write_state(&next, state);
             *answer = row_numbers(&row);
@@ -539,6 +545,7 @@ pub fn beside(
     memory: &[u16],
     from: &Beside,
     cells: &mut [u32],
+    list: &mut [u32],
     answer: &mut [u32],
 ) -> u8 {
     let Ok(answer) = <&mut [u32; ROW_ANSWER]>::try_from(answer) else {
@@ -551,12 +558,12 @@ pub fn beside(
         *answer = [0; ROW_ANSWER];
         return 0;
     } else if from.shift < 0 {
-        scroll::before_first(&settings, memory, from.soft, from.latch, cells)
+        scroll::before_first(&settings, memory, from.soft, from.latch, cells, list)
     } else {
         let Some(state) = state_of(from.state) else {
             return UNFIT;
         };
-        scroll::after_last(&settings, memory, &state, cells)
+        scroll::after_last(&settings, memory, &state, cells, list)
     };
     match drawn {
         Ok(row) => {
@@ -564,6 +571,15 @@ pub fn beside(
             0
         }
         Err(refusal) => refuse(refusal, answer),
+    }
+}
+
+/// A desk's write of a word.
+#[inline(never)]
+pub fn write_word(memory: &mut [u16], spans: &Spans, address: u32, word: u16) -> u8 {
+    match desks::write(memory, spans, address, word) {
+        Ok(()) => 0,
+        Err(number) => number,
     }
 }
 

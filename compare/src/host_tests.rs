@@ -3,11 +3,11 @@
 
 use crate::host::{
     self, settings_numbers, state_numbers, APPLY_ANSWER, EFFECT, LATCH_ANSWER, MAIL_ANSWER, PART,
-    ROW_ANSWER, ROW_BLOCK_FROM, SCROLL, SETTINGS, SETTINGS_MOST, SHEET_ANSWER, SHIFT_ANSWER,
-    START_ANSWER, STATE, UNFIT, WINDOW_NUMBER, WINDOW_ROW_BLOCK_FROM,
+    PLACES, ROW_ANSWER, ROW_BLOCK_FROM, SCROLL, SETTINGS, SETTINGS_MOST, SHEET_ANSWER,
+    SHIFT_ANSWER, START_ANSWER, STATE, UNFIT, WINDOW_NUMBER, WINDOW_ROW_BLOCK_FROM,
 };
-use crate::rules::{start, Settings, CELLS};
-use crate::tests::{wide, Board};
+use crate::rules::{Settings, CELLS};
+use crate::tests::{start, wide, Board};
 
 /// A frame with a window, its settings and its first state.
 fn begun() -> (Board, [u32; SETTINGS], [u32; STATE]) {
@@ -27,9 +27,18 @@ fn begun() -> (Board, [u32; SETTINGS], [u32; STATE]) {
 fn row(board: &Board, settings: &[u32], state: &[u32], cells: usize) -> (u8, [u32; ROW_ANSWER]) {
     let (mut after, mut drawn) = (state.to_vec(), vec![7; cells]);
     let mut answer = [9; ROW_ANSWER];
-    let status = host::row(settings, &board.memory, &mut after, &mut drawn, &mut answer);
+    let mut list = [5; PLACES];
+    let status = host::row(
+        settings,
+        &board.memory,
+        &mut after,
+        &mut drawn,
+        &mut list,
+        &mut answer,
+    );
     if status != 0 {
         assert_eq!(after, state);
+        assert_eq!(list, [5; PLACES]);
         assert!(drawn.iter().all(|&cell| cell == 7));
         let written = if status == UNFIT { 0 } else { 3 };
         assert!(answer[written..].iter().all(|&number| number == 9));
@@ -66,8 +75,9 @@ fn settings_past_their_range() {
             settings[place] = number;
             assert_eq!(host::sheet(&settings, &mut [0; SHEET_ANSWER]), 2);
             let (mut begun, mut answer) = ([7; STATE], [9; START_ANSWER]);
-            let status = host::start(&settings, memory, 0, &mut begun, &mut answer);
-            assert_eq!((status, begun), (2, [7; STATE]));
+            let mut list = [5; PLACES];
+            let status = host::start(&settings, memory, 0, &mut begun, &mut list, &mut answer);
+            assert_eq!((status, begun, list), (2, [7; STATE], [5; PLACES]));
             assert_eq!(answer, [0, 0, 0, 9]);
             let mut scroll = [0, 99, 0];
             let shifted = host::shift(
@@ -203,6 +213,7 @@ fn places_of_no_window() {
         &board.memory,
         &mut after,
         &mut cells,
+        &mut [0; PLACES],
         &mut answer,
     );
     assert_eq!(status, 0);

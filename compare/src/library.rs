@@ -2,6 +2,7 @@
 //! callers, so that only a program that calls one needs the library when it is linked.
 
 use crate::bus::Used;
+use crate::desks::Spans;
 use crate::host::Beside;
 
 extern "C" {
@@ -19,6 +20,8 @@ extern "C" {
         latch: u16,
         state: *mut u32,
         state_count: usize,
+        list: *mut u32,
+        list_count: usize,
         answer: *mut u32,
         answer_count: usize,
     ) -> u8;
@@ -31,6 +34,8 @@ extern "C" {
         state_count: usize,
         cells: *mut u32,
         cells_count: usize,
+        list: *mut u32,
+        list_count: usize,
         answer: *mut u32,
         answer_count: usize,
     ) -> u8;
@@ -91,8 +96,20 @@ extern "C" {
         state_count: usize,
         cells: *mut u32,
         cells_count: usize,
+        list: *mut u32,
+        list_count: usize,
         answer: *mut u32,
         answer_count: usize,
+    ) -> u8;
+    fn thagaduvin_write_word(
+        memory: *mut u16,
+        memory_count: usize,
+        own_first: u32,
+        own_last: u32,
+        other_first: u32,
+        other_last: u32,
+        address: u32,
+        word: u16,
     ) -> u8;
     fn thagaduvin_bus(
         burst: u16,
@@ -142,6 +159,7 @@ pub fn start(
     memory: &[u16],
     latch: u16,
     state: &mut [u32],
+    list: &mut [u32],
     answer: &mut [u32],
 ) -> u8 {
     unsafe {
@@ -153,6 +171,8 @@ pub fn start(
             latch,
             state.as_mut_ptr(),
             state.len(),
+            list.as_mut_ptr(),
+            list.len(),
             answer.as_mut_ptr(),
             answer.len(),
         )
@@ -165,6 +185,7 @@ pub fn row(
     memory: &[u16],
     state: &mut [u32],
     cells: &mut [u32],
+    list: &mut [u32],
     answer: &mut [u32],
 ) -> u8 {
     unsafe {
@@ -177,6 +198,8 @@ pub fn row(
             state.len(),
             cells.as_mut_ptr(),
             cells.len(),
+            list.as_mut_ptr(),
+            list.len(),
             answer.as_mut_ptr(),
             answer.len(),
         )
@@ -269,6 +292,7 @@ pub fn beside(
     memory: &[u16],
     from: &Beside,
     cells: &mut [u32],
+    list: &mut [u32],
     answer: &mut [u32],
 ) -> u8 {
     unsafe {
@@ -285,8 +309,26 @@ pub fn beside(
             from.state.len(),
             cells.as_mut_ptr(),
             cells.len(),
+            list.as_mut_ptr(),
+            list.len(),
             answer.as_mut_ptr(),
             answer.len(),
+        )
+    }
+}
+
+#[inline]
+pub fn write_word(memory: &mut [u16], spans: &Spans, address: u32, word: u16) -> u8 {
+    unsafe {
+        thagaduvin_write_word(
+            memory.as_mut_ptr(),
+            memory.len(),
+            spans.own.first,
+            spans.own.last,
+            spans.other.first,
+            spans.other.last,
+            address,
+            word,
         )
     }
 }

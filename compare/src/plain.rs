@@ -4,6 +4,7 @@
 use crate::rules::{Effect, Fields, Part, Pointer, Refusal, Row, Settings, State, Window, CELLS};
 use crate::scroll::{Scroll, Shifted};
 
+#[derive(Debug)]
 pub struct Drawn {
     pub answer: Row,
     pub cells: Vec<u32>,
@@ -20,7 +21,8 @@ struct Tape<'a> {
     settings: &'a Settings,
     memory: &'a [u16],
     row: u32,
-    count: u32,
+    /// The addresses of the words read.
+    read: &'a mut Vec<u32>,
     wraps: u32,
     latch: u16,
     latched: Vec<u16>,
@@ -93,7 +95,7 @@ impl Tape<'_> {
                 from: at.from,
             }),
             Some(&word) => {
-                self.count += 1;
+                self.read.push(at.address);
                 let before = at.address;
                 at.address = match (self.settings.linear, at.address) {
                     (true, 0xFF_FFFE) => 0,
@@ -266,12 +268,17 @@ impl Tape<'_> {
 }
 
 impl<'a> Tape<'a> {
-    fn new(settings: &'a Settings, memory: &'a [u16], row: u32) -> Tape<'a> {
+    fn new(
+        settings: &'a Settings,
+        memory: &'a [u16],
+        row: u32,
+        read: &'a mut Vec<u32>,
+    ) -> Tape<'a> {
         Tape {
             settings,
             memory,
             row,
-            count: 0,
+            read,
             wraps: 0,
             latch: 0,
             latched: Vec::new(),
@@ -325,12 +332,17 @@ impl Main {
     }
 }
 
-/// The first state of a frame, and the words read.
-pub fn start(settings: &Settings, memory: &[u16], latch: u16) -> Result<(State, u32), Refusal> {
+/// The first state of a frame. The addresses of the words read, also of a refused start, go to a list of no words.
+pub fn start(
+    settings: &Settings,
+    memory: &[u16],
+    latch: u16,
+    read: &mut Vec<u32>,
+) -> Result<State, Refusal> {
     if !good(settings) {
         return refuse(2, 0, 0);
     }
-    let mut tape = Tape::new(settings, memory, 0);
+    let mut tape = Tape::new(settings, memory, 0, read);
     let main = tape.main_block(&settings.top)?;
     let window = match tape.register(&settings.tow) {
         None => None,
@@ -354,7 +366,7 @@ pub fn start(settings: &Settings, memory: &[u16], latch: u16) -> Result<(State, 
         next_row: At::pointer(main.first),
         window,
     };
-    Ok((State { latch, fields }, tape.count))
+    Ok(State { latch, fields })
 }
 
 /// 000's table of rates: scan lines, and the frames that they take.
@@ -395,7 +407,8 @@ pub fn shift(
     if !range.contains(&last.shift) || last.phase > 7 {
         return refuse(3, 0, 0);
     }
-    let mut tape = Tape::new(settings, memory, 0);
+    let mut read = Vec::new();
+    let mut tape = Tape::new(settings, memory, 0, &mut read);
     let hard = tape.main_block(&settings.top)?;
     let mut given = Shifted {
         scroll: *last,
@@ -430,14 +443,20 @@ pub fn shift(
     Ok(given)
 }
 
-/// A row call's answer with a buffer of the right size.
-pub fn row(settings: &Settings, memory: &[u16], state: &State) -> Result<Drawn, Refusal> {
+/// A row call's answer with a buffer and a list of the right size. The addresses of the words read, also of a refused row,
+/// go to a list of no words.
+pub fn row(
+    settings: &Settings,
+    memory: &[u16],
+    state: &State,
+    read: &mut Vec<u32>,
+) -> Result<Drawn, Refusal> {
     let now = &state.fields;
     let mut tape = Tape {
         latch: state.latch,
         fill_code: now.fill_code,
         fill_flag: now.fill_flag,
-        ..Tape::new(settings, memory, now.row)
+        ..Tape::new(settings, memory, now.row, read)
     };
     if !good(settings) {
         return refuse(2, now.row, 0);
@@ -571,7 +590,7 @@ pub fn row(settings: &Settings, memory: &[u16], state: &State) -> Result<Drawn, 
             attributes: next.attributes,
             curs: next.curs,
             cure: next.cure,
-            words: tape.count,
+            words: tape.read.len() as u32,
         },
         cells,
         next: State {
@@ -595,6 +614,7 @@ pub fn effect(settings: &Settings, memory: &[u16], fields: &Fields) -> (Effect, 
                 latch,
                 fields: *fields,
             },
+            &mut Vec::new(),
         ) {
             Err(refusal) => Part::Refuse(refusal),
             Ok(drawn) => {

@@ -1,5 +1,7 @@
 //! The rules: settings sheet, start, row, effect, joining and applying.
 
+use crate::trail::{NoTrail, Track, Trail, PLACES};
+
 /// Cells in a row.
 pub const CELLS: usize = 132;
 
@@ -426,8 +428,8 @@ impl<'m> Reader<'m> {
 
     /// Words read so far.
     #[inline]
-    fn count(&self) -> u32 {
-        (self.before + self.index() - self.begin) as u32
+    fn count(&self) -> usize {
+        self.before + self.index() - self.begin
     }
 
     /// Address of the next word.
@@ -502,9 +504,11 @@ fn window_block(
     memory: &[u16],
     block: Pointer,
     before: Option<&Window>,
+    trail: &mut impl Track,
 ) -> Result<Window, Stop> {
     let (linear, at) = (settings.linear, block.address);
     let words: [u16; 6] = Reader::open(memory, linear, at, block.origin()).block()?;
+    trail.run(at, words.len());
     let [first_row, last_row] = words[4].to_be_bytes().map(u32::from);
     let [first_column, last_column] = words[5].to_be_bytes().map(u32::from);
     let late = before.is_none_or(|window| first_row > window.last_row);
@@ -523,10 +527,11 @@ fn window_block(
     })
 }
 
-/// A main block's words, and its first row block.
+/// A main block's words, its first row block and its own address.
 pub(crate) struct Main {
     pub(crate) words: [u16; 7],
     pub(crate) first: Pointer,
+    at: u32,
 }
 
 /// The main block at the top of a page, read and judged: 6, 7, 14.
@@ -542,27 +547,61 @@ pub(crate) fn main_block(linear: bool, memory: &[u16], top: [u16; 2]) -> Result<
     Ok(Main {
         words,
         first: Pointer::inside(linear, [words[0], words[1]], top, 0),
+        at: top,
     })
 }
 
-/// Begins a frame from the latch that the one before handed on; the first after reset from 0.
-pub fn start(settings: &Settings, memory: &[u16], latch: u16) -> Result<Start, Refusal> {
-    begin(settings, memory, latch).map_err(|stop| stop.at_row(0))
+/// Begins a frame from the latch that the one before handed on; the first after reset from 0. The addresses of the
+/// words read go to the list. A refusal leaves it as it was.
+pub fn start(
+    settings: &Settings,
+    memory: &[u16],
+    latch: u16,
+    list: &mut [u32],
+) -> Result<Start, Refusal> {
+    let list = list_of(list).map_err(|stop| stop.at_row(0))?;
+    let mut trail = Trail::new();
+    let start = begin(settings, memory, latch, &mut trail).map_err(|stop| stop.at_row(0))?;
+    trail.write(settings, memory, list);
+    Ok(start)
 }
 
-fn begin(settings: &Settings, memory: &[u16], latch: u16) -> Result<Start, Stop> {
+/// A list with the right number of places, or refusal 25.
+#[inline]
+pub(crate) fn list_of(list: &mut [u32]) -> Result<&mut [u32; PLACES], Stop> {
+    list.try_into().map_err(|_| Stop::bare(25))
+}
+
+/// A row buffer with the right number of cells, or refusal 1.
+#[inline]
+pub(crate) fn buffer_of(buffer: &mut [u32]) -> Result<&mut [u32; CELLS], Stop> {
+    buffer.try_into().map_err(|_| Stop::bare(1))
+}
+
+/// A start's checks from 2 on.
+pub(crate) fn begin(
+    settings: &Settings,
+    memory: &[u16],
+    latch: u16,
+    trail: &mut Trail,
+) -> Result<Start, Stop> {
     if !settings.good() {
         return Err(Stop::bare(2));
     }
     let linear = settings.linear;
-    let Main { words: main, first } = main_block(linear, memory, settings.top)?;
+    let Main {
+        words: main,
+        first,
+        at,
+    } = main_block(linear, memory, settings.top)?;
+    trail.run(at, main.len());
     let tow = Pointer {
         address: pointer(linear, settings.tow[0], settings.tow[1]),
         from: 0,
     };
     let window = match tow.address {
         0 => None,
-        _ => Some(window_block(settings, memory, tow, None)?),
+        _ => Some(window_block(settings, memory, tow, None, trail)?),
     };
     let [cursor_x, cursor_y] = main[2].to_be_bytes();
     let fields = Fields {
@@ -581,7 +620,7 @@ fn begin(settings: &Settings, memory: &[u16], latch: u16) -> Result<Start, Stop>
     };
     Ok(Start {
         state: State { latch, fields },
-        words: if window.is_some() { 13 } else { 7 },
+        words: trail.words(),
     })
 }
 
@@ -753,7 +792,6 @@ struct Plan<'a> {
     /// The bits of its cells that name it.
     source: u32,
     lines: u32,
-    words: u32,
     /// The next state's fields.
     next: Fields,
 }
@@ -766,7 +804,6 @@ impl<'a> Plan<'a> {
             columns: None,
             source: 0,
             lines: 0,
-            words: 0,
             next: *fields,
         }
     }
@@ -779,6 +816,7 @@ fn prepare<'a>(
     fields: &Fields,
     spare: &'a mut [Spare; 2],
     plan: &mut Plan<'a>,
+    trail: &mut impl Track,
 ) -> Result<(), Stop> {
     if !settings.good() {
         return Err(Stop::bare(2));
@@ -799,13 +837,8 @@ fn prepare<'a>(
             next.window = match window.next_block.address {
                 0 => None,
                 _ => {
-                    plan.words += 6;
-                    Some(window_block(
-                        settings,
-                        memory,
-                        window.next_block,
-                        Some(&window),
-                    )?)
+                    let block = window.next_block;
+                    Some(window_block(settings, memory, block, Some(&window), trail)?)
                 }
             };
         }
@@ -825,7 +858,7 @@ fn prepare<'a>(
         plan.back
             .read(&mut reader, head & 15, segments, spare_back)?;
         next.next_row = Pointer::inside(linear, [link0, link1], block, 0);
-        plan.words += reader.count();
+        trail.run(block, reader.count());
         if redefinition != 0 {
             let origin = Origin::inside(block, 3);
             let [attributes, lines, cursor] =
@@ -834,7 +867,7 @@ fn prepare<'a>(
             next.scan_lines = u32::from(lines & 31) + 1;
             next.curs = u32::from(cursor >> 8 & 31);
             next.cure = u32::from(cursor & 31);
-            plan.words += 3;
+            trail.run(redefinition, 3);
         }
         if plan.back.sum()? > CELLS {
             return Err(Stop::bare(10));
@@ -853,7 +886,7 @@ fn prepare<'a>(
                 plan.over
                     .read(&mut reader, head & 15, segments, spare_over)?;
                 window.next_row = Pointer::inside(linear, [link0, link1], block, 0);
-                plan.words += reader.count();
+                trail.run(block, reader.count());
                 if plan.over.sum()? > end - first {
                     return Err(Stop::bare(11));
                 }
@@ -894,8 +927,8 @@ impl List {
         }
     }
 
-    /// Takes the word for a fill run, which must have bit 15.
-    fn fill_word(&mut self, memory: &[u16], linear: bool) -> Result<Option<u16>, Stop> {
+    /// Takes the word for a fill run, which must have bit 15; it comes with its address.
+    fn fill_word(&mut self, memory: &[u16], linear: bool) -> Result<Option<(u16, u32)>, Stop> {
         let Some(address) = self.next else {
             return Ok(None);
         };
@@ -909,7 +942,7 @@ impl List {
             });
         }
         self.next = Some(step(linear, address));
-        Ok(Some(word))
+        Ok(Some((word, address)))
     }
 }
 
@@ -973,14 +1006,14 @@ struct Draw<'m> {
     fill_code: u32,
     fill_flag: bool,
     latch: u16,
-    words: u32,
+    trail: &'m mut Trail,
     cells: [u32; CELLS],
 }
 
 impl Draw<'_> {
     /// The codes of a segment without a list, none of which invokes.
     /// Gives how many cells they took.
-    #[inline]
+    #[inline(never)]
     fn plain_codes(&mut self, segment: &Segment, from: usize, source: u32) -> Result<usize, Stop> {
         let mut codes = Reader::open(self.memory, self.linear, segment.code, segment.origin);
         let room = if self.latch & self.hide != 0 {
@@ -1008,12 +1041,12 @@ impl Draw<'_> {
             }
         }
         let unused = cells.len();
-        self.words += codes.count();
+        self.trail.run(segment.code, codes.count());
         Ok(room - unused)
     }
 
     /// The codes of a segment with a list. Gives how many cells they took.
-    #[inline]
+    #[inline(never)]
     fn listed_codes(
         &mut self,
         segment: &Segment,
@@ -1080,7 +1113,8 @@ impl Draw<'_> {
         let unused = cells.len();
         attributes.rest = ahead.as_slice();
         self.latch = latch;
-        self.words += codes.count() + attributes.count();
+        let (length, words) = (usize::from(segment.length), attributes.count());
+        self.trail.listed(segment.code, length, segment.list, words);
         list.next = Some(attributes.address());
         Ok(usize::from(segment.width) - unused)
     }
@@ -1105,9 +1139,9 @@ impl Pen for Draw<'_> {
     fn fill(&mut self, from: usize, end: usize, list: &mut List) -> Result<(), Stop> {
         if from < end {
             if self.fill_flag {
-                if let Some(word) = list.fill_word(self.memory, self.linear)? {
+                if let Some((word, address)) = list.fill_word(self.memory, self.linear)? {
                     self.latch = word;
-                    self.words += 1;
+                    self.trail.run(address, 1);
                 }
             }
             self.cells[from..end].fill(look(self.latch) | self.fill_code);
@@ -1116,21 +1150,38 @@ impl Pen for Draw<'_> {
     }
 }
 
-/// Draws the next row: the cells go to the buffer, the state becomes the next one.
-/// A refusal leaves both as they were.
+/// Draws the next row: the cells go to the buffer, the addresses of the words read to the list, and the state becomes
+/// the next one. A refusal leaves all three as they were.
 pub fn row(
     settings: &Settings,
     memory: &[u16],
     state: &mut State,
     buffer: &mut [u32],
+    list: &mut [u32],
 ) -> Result<Row, Refusal> {
+    let row = state.fields.row;
+    let buffer = buffer_of(buffer).map_err(|stop| stop.at_row(row))?;
+    let list = list_of(list).map_err(|stop| stop.at_row(row))?;
+    let mut trail = Trail::new();
+    let answer =
+        drawn(settings, memory, state, buffer, &mut trail).map_err(|stop| stop.at_row(row))?;
+    trail.write(settings, memory, list);
+    Ok(answer)
+}
+
+/// A row's checks from 2 on, and its cells. The words are all those of the trail.
+#[inline(never)]
+pub(crate) fn drawn(
+    settings: &Settings,
+    memory: &[u16],
+    state: &mut State,
+    buffer: &mut [u32; CELLS],
+    trail: &mut Trail,
+) -> Result<Row, Stop> {
     let fields = &state.fields;
-    let Ok(buffer) = <&mut [u32; CELLS]>::try_from(buffer) else {
-        return Err(Stop::bare(1).at_row(fields.row));
-    };
     let mut spare = [None; 2];
     let mut plan = Plan::new(settings, fields);
-    prepare(settings, memory, fields, &mut spare, &mut plan).map_err(|s| s.at_row(fields.row))?;
+    prepare(settings, memory, fields, &mut spare, &mut plan, trail)?;
     let mut draw = Draw {
         memory,
         linear: settings.linear,
@@ -1139,10 +1190,10 @@ pub fn row(
         fill_code: u32::from(fields.fill_code),
         fill_flag: fields.fill_flag,
         latch: state.latch,
-        words: plan.words,
+        trail,
         cells: [0; CELLS],
     };
-    walk(&plan, &mut draw).map_err(|s| s.at_row(fields.row))?;
+    walk(&plan, &mut draw)?;
     if settings.cursor && u32::from(fields.cursor_y) == fields.row {
         if let Some(cell) = draw.cells.get_mut(usize::from(fields.cursor_x)) {
             *cell |= CURSOR;
@@ -1155,7 +1206,7 @@ pub fn row(
         attributes: plan.next.attributes,
         curs: plan.next.curs,
         cure: plan.next.cure,
-        words: draw.words,
+        words: draw.trail.words(),
     };
     *state = State {
         latch: draw.latch,
@@ -1393,7 +1444,7 @@ impl Pen for Trace<'_> {
     #[inline]
     fn fill(&mut self, from: usize, end: usize, list: &mut List) -> Result<(), Stop> {
         if self.fill_flag && from < end {
-            if let Some(word) = list.fill_word(self.memory, self.linear)? {
+            if let Some((word, _)) = list.fill_word(self.memory, self.linear)? {
                 self.latch(word);
             }
         }
@@ -1415,7 +1466,16 @@ impl Trace<'_> {
 pub fn effect(settings: &Settings, memory: &[u16], fields: &Fields) -> (Effect, Option<Fields>) {
     let mut spare = [None; 2];
     let mut plan = Plan::new(settings, fields);
-    if let Err(stop) = prepare(settings, memory, fields, &mut spare, &mut plan) {
+    // An effect is lent no list.
+    let prepared = prepare(
+        settings,
+        memory,
+        fields,
+        &mut spare,
+        &mut plan,
+        &mut NoTrail,
+    );
+    if let Err(stop) = prepared {
         let part = Part::Refuse(stop.at_row(fields.row));
         return (
             Effect {

@@ -1,6 +1,7 @@
 //! The draw program: reads a script and gives its whole output.
 
 use crate::rules::{self, Edition, Interlace, Refusal, Settings, CELLS};
+use crate::trail::PLACES;
 use std::io::Write;
 
 /// Words of memory in the draw program.
@@ -142,13 +143,14 @@ fn line(out: &mut Vec<u8>, text: std::fmt::Arguments) {
 
 fn draw(settings: &Settings, memory: &[u16], out: &mut Vec<u8>) -> Result<(), Refusal> {
     // A first frame.
-    let start = rules::start(settings, memory, 0)?;
+    let mut list = [0; PLACES];
+    let start = rules::start(settings, memory, 0, &mut list)?;
     let mut state = start.state;
     let mut words = start.words;
     let mut rows = 0;
     let mut cells = [0; CELLS];
     while state.fields.lines_left > 0 {
-        let row = rules::row(settings, memory, &mut state, &mut cells)?;
+        let row = rules::row(settings, memory, &mut state, &mut cells, &mut list)?;
         line(
             out,
             format_args!(

@@ -1,9 +1,10 @@
 //! Soft scroll of the background: the shift call before a frame, and the row beside the cut.
 
 use crate::rules::{
-    self, main_block, pointer, Main, Origin, Reader, Refusal, Row, Settings, State, Stop, CELLS,
-    SCROLL,
+    self, begin, buffer_of, drawn, list_of, main_block, pointer, Main, Origin, Reader, Refusal,
+    Row, Settings, State, Stop, SCROLL,
 };
+use crate::trail::Trail;
 
 /// M4: the scroll goes up.
 const UP: u16 = 0x2000;
@@ -151,34 +152,44 @@ pub fn after_last(
     memory: &[u16],
     state: &State,
     buffer: &mut [u32],
+    list: &mut [u32],
 ) -> Result<Row, Refusal> {
     let mut state = *state;
     state.fields.lines_left = 1;
-    rules::row(settings, memory, &mut state, buffer)
+    rules::row(settings, memory, &mut state, buffer, list)
 }
 
 /// The row beside the cut, down: row 0 of a start at the soft top, from the latch that the frame was
-/// started with. Its words are the start's and the row's.
+/// started with. Its words are the start's and then the row's.
 pub fn before_first(
     settings: &Settings,
     memory: &[u16],
     soft: [u16; 2],
     latch: u16,
     buffer: &mut [u32],
+    list: &mut [u32],
 ) -> Result<Row, Refusal> {
-    // It is one call, and a row's first check is that of its buffer.
-    if buffer.len() != CELLS {
-        return Err(Stop::bare(1).at_row(0));
-    }
     let settings = Settings {
         top: soft,
         ..*settings
     };
-    let start = rules::start(&settings, memory, latch)?;
-    let mut state = start.state;
-    let row = rules::row(&settings, memory, &mut state, buffer)?;
-    Ok(Row {
-        words: start.words + row.words,
-        ..row
-    })
+    // A refusal has row 0: that of the start, and that of its row.
+    first_row(&settings, memory, latch, buffer, list).map_err(|stop| stop.at_row(0))
+}
+
+fn first_row(
+    settings: &Settings,
+    memory: &[u16],
+    latch: u16,
+    buffer: &mut [u32],
+    list: &mut [u32],
+) -> Result<Row, Stop> {
+    // It is one call, and a row's first checks are those of its buffer and its list.
+    let buffer = buffer_of(buffer)?;
+    let list = list_of(list)?;
+    let mut trail = Trail::new();
+    let mut state = begin(settings, memory, latch, &mut trail)?.state;
+    let row = drawn(settings, memory, &mut state, buffer, &mut trail)?;
+    trail.write(settings, memory, list);
+    Ok(row)
 }

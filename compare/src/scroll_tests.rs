@@ -4,9 +4,11 @@
 use crate::generate::{self, Rng, Shape};
 use crate::host::{self, Beside, ROW_ANSWER, STATE};
 use crate::plain;
-use crate::rules::{row, start, Refusal, Settings, CELLS};
+use crate::rules::{Refusal, Settings, CELLS};
 use crate::scroll::{after_last, before_first, shift, Scroll, Shifted};
-use crate::tests::{wide, Board};
+use crate::tests::{row, start, wide, Board};
+use crate::trail::PLACES;
+use std::cell::Cell;
 
 /// M4: enabled.
 const DOWN: u16 = 0x4000;
@@ -267,14 +269,21 @@ fn rows_beside_the_cut() {
     let mut state = start(&settings, memory, 0).unwrap().state;
     let mut cells = [7; CELLS];
     row(&settings, memory, &mut state, &mut cells).unwrap();
-    let below = after_last(&settings, memory, &state, &mut cells).unwrap();
+    let mut list = [9; PLACES];
+    let below = after_last(&settings, memory, &state, &mut cells, &mut list).unwrap();
     assert_eq!((below.row, below.lines, below.words), (1, 1, 9));
     assert_eq!(cells[..3], [0x100043, 0x100044, 0x20]);
+    let block = |at: u32| (at..).step_by(2);
+    assert!(block(0x120).take(8).chain([0x202]).eq(list[..9].to_vec()));
+    assert_eq!(list[9..], [9; PLACES - 9]);
     // The soft list's first, from the start latch, with its own lines: 7 words and 9.
-    let above = before_first(&settings, memory, SOFT, 0x8002, &mut cells).unwrap();
+    let above = before_first(&settings, memory, SOFT, 0x8002, &mut cells, &mut list).unwrap();
     assert_eq!((above.row, above.lines, above.words), (0, 4, 16));
     assert_eq!(cells[..3], [0x100245, 0x100246, 0x220]);
-    let above = before_first(&wide(), memory, SOFT, 0, &mut cells).unwrap();
+    let read = block(0x30).take(7).chain(block(0x140).take(8));
+    assert!(read.chain([0x204]).eq(list[..16].to_vec()));
+    assert_eq!(list[16..], [9; PLACES - 16]);
+    let above = before_first(&wide(), memory, SOFT, 0, &mut cells, &mut list).unwrap();
     assert_eq!(above.lines, 6);
 }
 
@@ -285,6 +294,7 @@ fn beside_over_slices() {
     let good = host::settings_numbers(&wide());
     let bad = host::settings_numbers(&Settings { vsd: 99, ..wide() });
     let mut state = host::state_numbers(&start(&wide(), &board.memory, 0).unwrap().state);
+    let places = Cell::new(PLACES);
     let beside = |settings: &[u32], shift, soft, state: &[u32], cells: usize, answers: usize| {
         let from = Beside {
             shift,
@@ -293,8 +303,18 @@ fn beside_over_slices() {
             state,
         };
         let mut cells = vec![7; cells];
+        let mut list = vec![5; places.get()];
         let mut answer = vec![9; answers];
-        let status = host::beside(settings, &board.memory, &from, &mut cells, &mut answer);
+        let status = host::beside(
+            settings,
+            &board.memory,
+            &from,
+            &mut cells,
+            &mut list,
+            &mut answer,
+        );
+        let words = if status == 0 { answer[7] } else { 0 };
+        assert!(list[words as usize..].iter().all(|&place| place == 5));
         if status != 0 {
             let written = if status == host::UNFIT { 0 } else { 3 };
             assert!(cells.iter().all(|&cell| cell == 7));
@@ -330,6 +350,16 @@ fn beside_over_slices() {
         assert_eq!(beside(&good, i32::MIN, null, state, CELLS, ROW_ANSWER).0, 6);
     }
     assert_eq!(state.len(), STATE);
+    // Another list: not looked at without a row, else just after 1, with the row of a row.
+    for other in [0, PLACES - 1, PLACES + 1] {
+        places.set(other);
+        assert_eq!(beside(&bad, 0, null, &[], 5, ROW_ANSWER).0, 0);
+        for (shift, row) in [(1, 4095), (-1, 0)] {
+            assert_eq!(beside(&bad, shift, null, &state, 5, ROW_ANSWER).0, 1);
+            let (status, answer) = beside(&bad, shift, null, &state, CELLS, ROW_ANSWER);
+            assert_eq!((status, &answer[..3]), (25, &[row, 0, 0][..]));
+        }
+    }
 }
 
 /// Shift calls in sequence over random frames, held against the plain form.

@@ -3,10 +3,11 @@
 use crate::generate::{self, Case, Rng, Shape};
 use crate::plain;
 use crate::rules::{
-    self, effect, invokes, pointer, row, sheet, start, step, Edition, Effect, Field, Fields,
-    Interlace, Part, Pointer, Refusal, Row, Settings, Sheet, Start, State, Window, CELLS,
+    self, effect, invokes, pointer, sheet, step, Edition, Effect, Field, Fields, Interlace, Part,
+    Pointer, Refusal, Row, Settings, Sheet, Start, State, Window, CELLS,
 };
 use crate::script::{self, UNSET};
+use crate::trail::PLACES;
 use crate::vectors::{self, sheet_s};
 
 const SHEET_S_OUTPUT: &str = "\
@@ -16,6 +17,21 @@ row 1 lines 8 attr 000 words 3
 00000220 00000220 00000220 00000220
 end rows 2 words 22
 ";
+
+/// A start whose list is not looked at.
+pub fn start(settings: &Settings, memory: &[u16], latch: u16) -> Result<Start, Refusal> {
+    rules::start(settings, memory, latch, &mut [0; PLACES])
+}
+
+/// A row whose list is not looked at.
+pub fn row(
+    settings: &Settings,
+    memory: &[u16],
+    state: &mut State,
+    buffer: &mut [u32],
+) -> Result<Row, Refusal> {
+    rules::row(settings, memory, state, buffer, &mut [0; PLACES])
+}
 
 fn output(bytes: &[u8]) -> String {
     String::from_utf8(script::run(bytes)).unwrap()
@@ -1102,19 +1118,48 @@ fn begin(case: &Case) -> Option<State> {
 #[derive(Debug, Default)]
 struct Tally {
     /// Calls by refusal number, accepted rows at 0.
-    calls: [u32; 15],
+    calls: [u32; 26],
     rows_with_window: u32,
     rows_with_wrap: u32,
     effects_with_two_words: u32,
     effects_refused_in_one_part: u32,
 }
 
+/// A list lent to calls, of up to 13,000 places, each of which has a mark of its own.
+struct Lent {
+    marks: Vec<u32>,
+    list: Vec<u32>,
+}
+
+impl Lent {
+    fn new() -> Lent {
+        let marks: Vec<u32> = (0..13_000).map(|n| 0x8000_0001 + 2 * n).collect();
+        Lent {
+            list: marks.clone(),
+            marks,
+        }
+    }
+
+    /// Whether the addresses stand in the list, and every place past them as it was. It is then as it was.
+    fn holds(&mut self, read: &[u32]) -> bool {
+        let (list, rest) = self.list.split_at_mut(read.len());
+        let (marks, rest_marks) = self.marks.split_at(read.len());
+        let right = list == read && rest == rest_marks;
+        list.copy_from_slice(marks);
+        right
+    }
+}
+
 /// Runs a case's calls, each held against the plain form, and tallies refusals.
-fn compare_case(case: &Case, tally: &mut Tally) {
+fn compare_case(case: &Case, lent: &mut Lent, tally: &mut Tally) {
     let (settings, memory) = (&case.settings, &case.memory[..]);
-    let by_plain = plain::start(settings, memory, 0);
-    let by_plain = by_plain.map(|(state, words)| Start { state, words });
-    assert_eq!(start(settings, memory, 0), by_plain);
+    let mut read = Vec::new();
+    let by_plain = plain::start(settings, memory, 0, &mut read);
+    let words = read.len() as u32;
+    let by_plain = by_plain.map(|state| Start { state, words });
+    let got = rules::start(settings, memory, 0, &mut lent.list[..PLACES]);
+    assert_eq!(got, by_plain);
+    assert!(lent.holds(if got.is_ok() { &read } else { &[] }));
     if let Err(refusal) = by_plain {
         if case.state.is_none() {
             tally.calls[usize::from(refusal.number)] += 1;
@@ -1127,12 +1172,14 @@ fn compare_case(case: &Case, tally: &mut Tally) {
     // Demand 3: the effects of the rows above, joined, and the fields that they come with.
     let mut joined = Effect::EMPTY;
     let mut reached: Fields = first.fields;
-    for &length in &case.buffers {
+    for &(length, places) in &case.buffers {
         let mut buffer: Vec<u32> = (0..length as u32).map(|n| n.wrapping_mul(0x9E37)).collect();
         let (old_state, old_buffer) = (state, buffer.clone());
-        let got = row(settings, memory, &mut state, &mut buffer);
+        let list = &mut lent.list[..places];
+        let got = rules::row(settings, memory, &mut state, &mut buffer, list);
         if let Err(refusal) = got {
             assert_eq!((state, &buffer), (old_state, &old_buffer));
+            assert!(lent.holds(&[]));
             assert_eq!(refusal.row, old_state.fields.row);
             tally.calls[usize::from(refusal.number)] += 1;
         } else {
@@ -1142,9 +1189,15 @@ fn compare_case(case: &Case, tally: &mut Tally) {
             assert_eq!(got.unwrap_err().number, 1);
             continue;
         }
-        match plain::row(settings, memory, &old_state) {
+        if places != PLACES {
+            assert_eq!(got.unwrap_err().number, 25);
+            continue;
+        }
+        let mut read = Vec::new();
+        match plain::row(settings, memory, &old_state, &mut read) {
             Err(refusal) => assert_eq!(got, Err(refusal)),
             Ok(drawn) => {
+                assert!(lent.holds(&read));
                 assert_eq!(got, Ok(drawn.answer));
                 assert_eq!(state, drawn.next);
                 assert_eq!(buffer, drawn.cells);
@@ -1161,8 +1214,10 @@ fn compare_case(case: &Case, tally: &mut Tally) {
                     fields: reached,
                 };
                 let mut cells = [0; CELLS];
-                let answer = row(settings, memory, &mut alone, &mut cells);
+                let list = &mut lent.list[..PLACES];
+                let answer = rules::row(settings, memory, &mut alone, &mut cells, list);
                 assert_eq!(answer, got);
+                assert!(lent.holds(if got.is_ok() { &read } else { &[] }));
                 if got.is_ok() {
                     assert_eq!(alone, state);
                     assert_eq!(cells[..], buffer[..]);
@@ -1185,10 +1240,11 @@ fn compare_case(case: &Case, tally: &mut Tally) {
 fn compare_shape(seed: u64, cases: usize, shape: impl Fn(&mut Rng) -> Shape) -> Tally {
     let mut rng = Rng::new(seed);
     let mut tally = Tally::default();
+    let mut lent = Lent::new();
     for _ in 0..cases {
         let shape = shape(&mut rng);
         let case = generate::case(&mut rng, &shape);
-        compare_case(&case, &mut tally);
+        compare_case(&case, &mut lent, &mut tally);
     }
     tally
 }
@@ -1203,7 +1259,7 @@ fn random_small_memories() {
         Shape::words(words)
     });
     println!("small: {tally:?}");
-    for number in [0, 1, 2, 3, 4, 6, 7, 8, 9, 10, 11, 12, 13, 14] {
+    for number in [0, 1, 2, 3, 4, 6, 7, 8, 9, 10, 11, 12, 13, 14, 25] {
         assert!(tally.calls[number] > 300, "{number}: {tally:?}");
     }
     assert_eq!(tally.calls[5], 0);
@@ -1270,6 +1326,7 @@ fn every_cut_of_s() {
 fn random_bits() {
     let mut rng = Rng::new(5);
     let mut tally = Tally::default();
+    let mut lent = Lent::new();
     for _ in 0..30_000 {
         let memory: Vec<u16> = {
             let words = rng.below(600);
@@ -1281,7 +1338,7 @@ fn random_bits() {
         case.settings.top = [0, rng.word() & 0x3FF];
         case.settings.tow = [0, rng.word() & 0x3FF];
         case.memory = memory;
-        compare_case(&case, &mut tally);
+        compare_case(&case, &mut lent, &mut tally);
     }
     println!("bits: {tally:?}");
 }

@@ -1,10 +1,12 @@
-//! Measures rows and effects: the proved library through its host calls, this implementation
+//! Measures rows, with their lists of addresses, and effects: the proved library through its host calls, this implementation
 //! through the same slices, and this implementation called directly. The three take turns in
 //! short rounds, so that whatever else the machine does falls on all alike.
 //!
 //! Usage: measure [PART OF A NAME]
 
-use compare::host::{self, EFFECT, ROW_ANSWER, ROW_WORDS, SETTINGS as SETTINGS_COUNT, STATE};
+use compare::host::{
+    self, EFFECT, PLACES, ROW_ANSWER, ROW_WORDS, SETTINGS as SETTINGS_COUNT, STATE,
+};
 use compare::library;
 use compare::rules::{self, Settings, State, CELLS};
 use compare::script::UNSET;
@@ -130,6 +132,7 @@ struct Bench {
     state: [u32; STATE],
     settings: [u32; SETTINGS_COUNT],
     cells: [u32; CELLS],
+    list: [u32; PLACES],
     answer: [u32; ROW_ANSWER],
     effect: [u32; EFFECT],
     memory: Vec<u16>,
@@ -149,7 +152,8 @@ fn round(mut call: impl FnMut()) -> f64 {
 
 impl Bench {
     fn new((settings, memory): (Settings, Vec<u16>)) -> Bench {
-        let begun = rules::start(&settings, &memory, 0)
+        let mut list = [0; PLACES];
+        let begun = rules::start(&settings, &memory, 0, &mut list)
             .expect("a good start")
             .state;
         Bench {
@@ -157,6 +161,7 @@ impl Bench {
             state: [0; STATE],
             settings: host::settings_numbers(&settings),
             cells: [0; CELLS],
+            list,
             answer: [0; ROW_ANSWER],
             effect: [0; EFFECT],
             memory,
@@ -169,7 +174,7 @@ impl Bench {
     #[inline]
     fn rows(
         &mut self,
-        call: impl Fn(&[u32], &[u16], &mut [u32], &mut [u32], &mut [u32]) -> u8,
+        call: impl Fn(&[u32], &[u16], &mut [u32], &mut [u32], &mut [u32], &mut [u32]) -> u8,
     ) -> f64 {
         round(|| {
             self.state = *black_box(&self.begun);
@@ -178,6 +183,7 @@ impl Bench {
                 black_box(&self.memory),
                 black_box(&mut self.state),
                 black_box(&mut self.cells),
+                black_box(&mut self.list),
                 black_box(&mut self.answer),
             );
             assert_eq!(status, 0);
@@ -203,6 +209,7 @@ impl Bench {
                 black_box(&self.memory),
                 black_box(&mut state),
                 black_box(&mut self.cells),
+                black_box(&mut self.list),
             );
             assert!(black_box(&answer).is_ok());
             black_box(&state);
@@ -256,9 +263,12 @@ fn summary(times: &[f64]) -> [f64; 2] {
 /// The words that the frame's row reads, as both sides say.
 fn words(bench: &mut Bench) -> u32 {
     bench.library_rows();
-    let (cells, answer) = (bench.cells, bench.answer);
+    let (cells, list, answer) = (bench.cells, bench.list, bench.answer);
+    bench.list = [0; PLACES];
     bench.host_rows();
     assert!(cells == bench.cells && answer == bench.answer);
+    let words = answer[ROW_WORDS] as usize;
+    assert!(list[..words] == bench.list[..words]);
     answer[ROW_WORDS]
 }
 

@@ -1,1 +1,1 @@
-mod BesideLaws
+pub mod BesideLaws

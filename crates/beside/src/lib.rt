@@ -86,7 +86,7 @@ fn row_above(settings: Settings, mem: &[u16], latch: u16, buffer: &mut [u32]) ->
 }
 
 // An accepted row's answer, `words` having been read for it before.
-fn tell(words: u32, row: DrawnRow) -> BesideAnswer
+pub fn tell(words: u32, row: DrawnRow) -> BesideAnswer
     requires { ⌜ (words < 14) × (row .words < 12000) ⌝ }
     ensures { λ r. ⌜ r ≡ told words (Row.Accepted row) ⌝ }
 {
@@ -99,7 +99,8 @@ fn tell(words: u32, row: DrawnRow) -> BesideAnswer
     })
 }
 
-fn with_one_line(f: Fields) -> Fields
+// The fields of the row below the frame's last.
+pub fn with_one_line(f: Fields) -> Fields
     ensures { λ r. ⌜ r ≡ withOneLine f ⌝ }
 {
     let mut g = f;
@@ -107,7 +108,8 @@ fn with_one_line(f: Fields) -> Fields
     g
 }
 
-fn with_top(settings: Settings, top: PointerWords) -> Settings
+// The settings with another hard top.
+pub fn with_top(settings: Settings, top: PointerWords) -> Settings
     ensures { λ r. ⌜ r ≡ withTop settings top ⌝ }
 {
     let mut s = settings;

@@ -109,7 +109,7 @@ same-row σ f a b (refused x) = refl
 module _ (σ : Settings) (m : List ℕ) (first : ℕ) where
   -- where the calls stand against the effects of the rows above: these make the state's latch, on its fields; or they refuse as a
   -- row from the state does
-  data Stands (f : Fields) (above : Effect) : State → Type 0 where
+  pub data Stands (f : Fields) (above : Effect) : State → Type 0 where
     goes : {l : ℕ} → apply above first ≡ Latch l → Stands f above (stateOf l f)
     stays : {s : State} (x : Fault) → run m (row σ s) ≡ refused x → apply above first ≡ Refuses (refusal (s .fields .row) x)
         → Stands f above s
@@ -124,7 +124,7 @@ module _ (σ : Settings) (m : List ℕ) (first : ℕ) where
 
   -- and the calls after it stand so again
   module _ (f : Fields) (above : Effect) (b : List ℕ) where
-    abbrev Next : State → Outcome Row → Type 0
+    abbrev pub Next : State → Outcome Row → Type 0
     Next s o =
         let x = effectCall σ m f in
         Stands (fieldsAfter f (x .next)) (join above (x .effect)) (stateAfter s (answered σ (s .fields) b o .answer))
@@ -136,7 +136,7 @@ module _ (σ : Settings) (m : List ℕ) (first : ℕ) where
     go-on l (given n r) e h k = rw k (goes h)
     go-on l (refused x) e h k = stays x e h
 
-    tail : {s : State} → Stands f above s → Next s (run m (row σ s))
+    pub tail : {s : State} → Stands f above s → Next s (run m (row σ s))
     unfolding stateAfter
     tail (goes {l} h) =
         go-on l (run m (row σ (stateOf l f))) refl

@@ -1,3 +1,4 @@
 pub mod Refuses
 pub mod Told
+pub mod ToldListed
 pub mod Examples

@@ -202,7 +202,7 @@ shift-told σ m soft last = by (run-told refl 0 m (shift-refuses σ soft last))
     by (refused-told {x} h) = one-told shiftNumbers (x .number) h
 
 -- one more number in front of a list
-more-told : (k : ℕ) (ns : List ℕ) (n : ℕ) → has n ns ≡ true → has n (k ∷ ns) ≡ true
+pub more-told : (k : ℕ) (ns : List ℕ) (n : ℕ) → has n ns ≡ true → has n (k ∷ ns) ≡ true
 more-told k ns n h = rw h (or-true (eqb n k))
   where
     or-true : (b : Bool) → b || true ≡ true

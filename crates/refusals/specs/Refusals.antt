@@ -11,6 +11,8 @@ use Rattle.row.specs.declared.RowAnswer.{RowAnswer}
 use Rattle.row.specs.declared.RowAnswer.the-variants as Row
 use Rattle.scroll.specs.declared.ShiftAnswer.{ShiftAnswer}
 use Rattle.scroll.specs.declared.ShiftAnswer.the-variants as Shift
+use Rattle.writer.specs.declared.WriteAnswer.{WriteAnswer}
+use Rattle.writer.specs.declared.WriteAnswer.the-variants as Write
 use Rattle.joining.specs.declared.Part.{Part}
 use Rattle.joining.specs.declared.Part.the-variants.{Keep, Set, Refuse}
 use Rattle.effect.specs.declared.EffectAnswer.{EffectAnswer}
@@ -36,6 +38,18 @@ effectNumbers = 2 ∷ 3 ∷ 4 ∷ 7 ∷ 8 ∷ 9 ∷ 10 ∷ 11 ∷ 12 ∷ 13 ∷ 
 abbrev pub rowNumbers : List ℕ
 rowNumbers = 1 ∷ effectNumbers
 
+-- with a list, 02: "25, another number of list places, just after 1"
+abbrev pub startListedNumbers : List ℕ
+startListedNumbers = 25 ∷ startNumbers
+
+abbrev pub rowListedNumbers : List ℕ
+rowListedNumbers = 1 ∷ 25 ∷ effectNumbers
+
+-- 02, of a writer call: "15, write to an odd address or outside the desk's span or memory, nothing written; 16, spans that share an
+-- address, before 15"
+abbrev pub writerNumbers : List ℕ
+writerNumbers = 16 ∷ 15 ∷ []
+
 -- the number that an answer has, where it is a refusal; an effect's parts have one each
 abbrev pub ofSheet : SheetAnswer → List ℕ
 ofSheet (Sheet.Given s) = []
@@ -52,6 +66,10 @@ ofShift (Shift.Refused r) = r .number ∷ []
 abbrev pub ofRow : RowAnswer → List ℕ
 ofRow (Row.Accepted d) = []
 ofRow (Row.Refused r) = r .number ∷ []
+
+abbrev pub ofWrite : WriteAnswer → List ℕ
+ofWrite Write.Written = []
+ofWrite (Write.Refused r) = r .number ∷ []
 
 abbrev pub ofPart : Part → List ℕ
 ofPart Keep = []

@@ -62,7 +62,7 @@ pub fn code_settings(settings: Settings) -> CodeSettings
 }
 
 // A planned row: its cells are drawn in the buffer, and a refusal puts back what stood there before.
-fn draw_planned(
+pub fn draw_planned(
     settings: Settings,
     mem: &[u16],
     state: State,

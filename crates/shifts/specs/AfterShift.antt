@@ -19,7 +19,7 @@ use Rattle.scroll.specs.declared.ShiftAnswer.the-variants as Shift
 use Rattle.beside.specs.declared.BesideRow.{BesideRow}
 use Rattle.beside.specs.declared.BesideAnswer.{BesideAnswer}
 use Rattle.beside.specs.declared.BesideAnswer.the-variants as Beside
-use Rattle.beside.specs.Beside.{BesideCalled, besideCall}
+use Rattle.listed_beside.specs.ListedBeside.{BesideListed, besideListed}
 use Rattle.numbers.specs.declared.decode.StateIn.{StateIn}
 use Rattle.numbers.specs.declared.decode.StateIn.the-variants as State-in
 use Rattle.numbers.specs.Decode.{stateIn}
@@ -50,14 +50,23 @@ besideNumbers d = d .number ∷ 0 ∷ 0 ∷ d .lines ∷ d .format .attributes �
 abbrev pub noRow : List ℕ
 noRow = 0 ∷ 0 ∷ 0 ∷ 0 ∷ 0 ∷ 0 ∷ 0 ∷ 0 ∷ []
 
--- a row beside the cut: a status, and what stands in the row buffer and in the answer
-abbrev pub besideAnswered : List ℕ → List ℕ → BesideAnswer → Stated
-besideAnswered cells answer Beside.Absent = stated 0 cells noRow
-besideAnswered cells answer (Beside.Drawn d) = stated 0 cells (besideNumbers d)
-besideAnswered cells answer (Beside.Refused r) = stated (r .number) cells (withRefusal r answer)
+-- a row beside the cut: a status, and what stands in the row buffer, in the list and in the answer
+pub record BesideDone : Type 0 where
+  pub status : ℕ
+  pub cells : List ℕ
+  pub list : List ℕ
+  pub answer : List ℕ
 
-abbrev pub afterBeside : List ℕ → BesideCalled → Stated
-afterBeside answer out = besideAnswered (out .buffer) answer (out .answer)
+abbrev pub besideDone : ℕ → List ℕ → List ℕ → List ℕ → BesideDone
+besideDone status cells list answer = record { status = status; cells = cells; list = list; answer = answer }
+
+abbrev pub besideAnswered : List ℕ → List ℕ → List ℕ → BesideAnswer → BesideDone
+besideAnswered cells list answer Beside.Absent = besideDone 0 cells list noRow
+besideAnswered cells list answer (Beside.Drawn d) = besideDone 0 cells list (besideNumbers d)
+besideAnswered cells list answer (Beside.Refused r) = besideDone (r .number) cells list (withRefusal r answer)
+
+abbrev pub afterBeside : List ℕ → BesideListed → BesideDone
+afterBeside answer out = besideAnswered (out .buffer) (out .list) answer (out .answer)
 
 -- the state of a call that looks at none
 abbrev pub noState : State
@@ -76,11 +85,11 @@ noState = record {
 
 -- The row beside the cut by the numbers of a state: "up, the one after the frame's last", so the state is looked at when the shift is
 -- positive, and else any will do. Status 255 where no field can have one of its numbers.
-abbrev pub belowState : Settings → List ℕ → ℤ → PointerWords → ℕ → List ℕ → List ℕ → StateIn → Stated
-belowState σ m shift soft latch cells answer (State-in.Fit s) = afterBeside answer (besideCall σ m shift soft latch s cells)
-belowState σ m shift soft latch cells answer State-in.Unfit = stated 255 cells answer
+abbrev pub belowState : Settings → List ℕ → ℤ → PointerWords → ℕ → List ℕ → List ℕ → List ℕ → StateIn → BesideDone
+belowState σ m shift soft latch cells list answer (State-in.Fit s) = afterBeside answer (besideListed σ m shift soft latch s cells list)
+belowState σ m shift soft latch cells list answer State-in.Unfit = besideDone 255 cells list answer
 
-unfoldable pub besideFrom : Settings → List ℕ → ℤ → PointerWords → ℕ → List ℕ → List ℕ → List ℕ → Stated
-besideFrom σ m shift soft latch state cells answer =
-    if ltZ (pos 0) shift then belowState σ m shift soft latch cells answer (stateIn state)
-    else afterBeside answer (besideCall σ m shift soft latch noState cells)
+unfoldable pub besideFrom : Settings → List ℕ → ℤ → PointerWords → ℕ → List ℕ → List ℕ → List ℕ → List ℕ → BesideDone
+besideFrom σ m shift soft latch state cells list answer =
+    if ltZ (pos 0) shift then belowState σ m shift soft latch cells list answer (stateIn state)
+    else afterBeside answer (besideListed σ m shift soft latch noState cells list)

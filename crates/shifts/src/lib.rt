@@ -20,9 +20,9 @@ ghost use lib.ListN.{length};
 ghost use mir.Syntax.{w32};
 ghost use mir.Val.{toZ, ofZ};
 ghost use Rattle.scroll.specs.Scroll.{shiftCall};
-ghost use Rattle.beside.specs.Beside.{besideCall};
+ghost use Rattle.listed_beside.specs.ListedBeside.{besideListed};
 ghost use Rattle.answers.specs.AfterCall.{stated};
-ghost use Rattle.shifts.specs.AfterShift.{scrollNumbers, scrollOf, topNumbers, afterShift, besideNumbers, afterBeside, noState, besideFrom};
+ghost use Rattle.shifts.specs.AfterShift.{scrollNumbers, scrollOf, topNumbers, afterShift, besideNumbers, besideDone, afterBeside, noState, besideFrom};
 
 // A shift call from the scroll in `scroll`: the next one there, and the hard top in `answer`.
 pub fn next_shift(
@@ -52,7 +52,7 @@ pub fn next_shift(
     }
 }
 
-// The row beside the cut, its cells in `cells`, after the state in `state`, which is looked at where the shift is positive.
+// The row beside the cut, its cells in `cells` and its addresses in `list`, after the state in `state`, which is looked at where the shift is positive.
 pub fn beside_from(
     settings: Settings,
     memory: &[u16],
@@ -61,15 +61,26 @@ pub fn beside_from(
     latch: u16,
     state: &[u32],
     cells: &mut [u32],
+    list: &mut [u32],
     answer: &mut [u32],
 ) -> u8
     requires { ⌜ length (now answer) ≡ 8 ⌝ }
-    ensures { λ r. ⌜ stated r (now (cells .exit)) (now (answer .exit)) ≡ besideFrom settings (now (memory .entry)) shift soft latch (now (state .entry)) (now (cells .entry)) (now (answer .entry)) ⌝ }
+    ensures { λ r. ⌜ besideDone r (now (cells .exit)) (now (list .exit)) (now (answer .exit)) ≡ besideFrom settings (now (memory .entry)) shift soft latch (now (state .entry)) (now (cells .entry)) (now (list .entry)) (now (answer .entry)) ⌝ }
 {
     if 0 < shift {
         return match decode::state_in(state) {
             StateIn::Fit(last) => {
-                next_beside(settings, memory, shift, soft, latch, last, cells, answer)
+                next_beside(
+                    settings,
+                    memory,
+                    shift,
+                    soft,
+                    latch,
+                    last,
+                    cells,
+                    list,
+                    answer,
+                )
             }
             StateIn::Unfit => 255,
         };
@@ -82,11 +93,12 @@ pub fn beside_from(
         latch,
         no_state(),
         cells,
+        list,
         answer,
     )
 }
 
-// The row beside the cut: its cells in `cells`.
+// The row beside the cut: its cells in `cells`, its addresses in `list`.
 fn next_beside(
     settings: Settings,
     memory: &[u16],
@@ -95,12 +107,13 @@ fn next_beside(
     latch: u16,
     last: State,
     cells: &mut [u32],
+    list: &mut [u32],
     answer: &mut [u32],
 ) -> u8
     requires { ⌜ length (now answer) ≡ 8 ⌝ }
-    ensures { λ r. ⌜ stated r (now (cells .exit)) (now (answer .exit)) ≡ afterBeside (now (answer .entry)) (besideCall settings (now (memory .entry)) shift soft latch last (now (cells .entry))) ⌝ }
+    ensures { λ r. ⌜ besideDone r (now (cells .exit)) (now (list .exit)) (now (answer .exit)) ≡ afterBeside (now (answer .entry)) (besideListed settings (now (memory .entry)) shift soft latch last (now (cells .entry)) (now (list .entry))) ⌝ }
 {
-    match beside::beside(settings, memory, shift, soft, latch, last, cells) {
+    match listed_beside::beside(settings, memory, shift, soft, latch, last, cells, list) {
         BesideAnswer::Absent => {
             let zeros = [0u32; 8];
             encode::write(&zeros, answer);

@@ -8,8 +8,7 @@ use lib.Dec.{eqb}
 use Rattle.memory.specs.Word.{if_then_else_}
 use Rattle.settings.specs.declared.Settings.{Settings}
 use Rattle.settings.specs.Sheet.{sheetCall}
-use Rattle.start.specs.Start.{startCall}
-use Rattle.row.specs.Row.{rowCall}
+use Rattle.listed.specs.Listed.{startListed, rowListed}
 use Rattle.numbers.specs.declared.decode.SettingsIn.{SettingsIn}
 use Rattle.numbers.specs.declared.decode.SettingsIn.the-variants as Settings-in
 use Rattle.numbers.specs.declared.decode.StateIn.{StateIn}
@@ -17,7 +16,8 @@ use Rattle.numbers.specs.declared.decode.StateIn.the-variants as State-in
 use Rattle.frame.specs.HandedOn.{latchAfter}
 use Rattle.numbers.specs.Decode.{settingsIn, stateIn}
 use Rattle.answers.specs.AnswerNumbers.{oneNumber}
-use Rattle.answers.specs.AfterCall.{Answered, answered, afterSheet, Stated, stated, afterStart, Drawn, drawn, afterRow}
+use Rattle.answers.specs.AfterCall.{Answered, answered, afterSheet}
+use Rattle.listed_answers.specs.AfterListed.{StatedListed, statedListed, afterStartListed, DrawnListed, drawnListed, afterRowListed}
 
 -- the settings sheet
 abbrev pub sheetFrom : List ℕ → SettingsIn → Answered
@@ -27,29 +27,29 @@ sheetFrom answer Settings-in.Unfit = answered 255 answer
 unfoldable pub hostSheet : List ℕ → List ℕ → Answered
 hostSheet settings answer = if eqb (length answer) 21 then sheetFrom answer (settingsIn settings) else answered 255 answer
 
--- a start
-abbrev pub startFrom : List ℕ → ℕ → List ℕ → List ℕ → SettingsIn → Stated
-startFrom m latch state answer (Settings-in.Fit σ) = afterStart state answer (startCall latch σ m)
-startFrom m latch state answer Settings-in.Unfit = stated 255 state answer
+-- a start; the list is document 02's, of any length
+abbrev pub startFrom : List ℕ → ℕ → List ℕ → List ℕ → List ℕ → SettingsIn → StatedListed
+startFrom m latch state list answer (Settings-in.Fit σ) = afterStartListed state answer (startListed latch σ m list)
+startFrom m latch state list answer Settings-in.Unfit = statedListed 255 state list answer
 
-unfoldable pub hostStart : List ℕ → List ℕ → ℕ → List ℕ → List ℕ → Stated
-hostStart settings m latch state answer =
+unfoldable pub hostStart : List ℕ → List ℕ → ℕ → List ℕ → List ℕ → List ℕ → StatedListed
+hostStart settings m latch state list answer =
     if eqb (length state) 23 && eqb (length answer) 4
-    then startFrom m latch state answer (settingsIn settings)
-    else stated 255 state answer
+    then startFrom m latch state list answer (settingsIn settings)
+    else statedListed 255 state list answer
 
 -- a row
-abbrev pub rowFrom : Settings → List ℕ → List ℕ → List ℕ → List ℕ → StateIn → Drawn
-rowFrom σ m state cells answer (State-in.Fit s) = afterRow state answer (rowCall σ m s cells)
-rowFrom σ m state cells answer State-in.Unfit = drawn 255 state cells answer
+abbrev pub rowFrom : Settings → List ℕ → List ℕ → List ℕ → List ℕ → List ℕ → StateIn → DrawnListed
+rowFrom σ m state cells list answer (State-in.Fit s) = afterRowListed state answer (rowListed σ m s cells list)
+rowFrom σ m state cells list answer State-in.Unfit = drawnListed 255 state cells list answer
 
-abbrev pub rowWith : List ℕ → List ℕ → List ℕ → List ℕ → SettingsIn → Drawn
-rowWith m state cells answer (Settings-in.Fit σ) = rowFrom σ m state cells answer (stateIn state)
-rowWith m state cells answer Settings-in.Unfit = drawn 255 state cells answer
+abbrev pub rowWith : List ℕ → List ℕ → List ℕ → List ℕ → List ℕ → SettingsIn → DrawnListed
+rowWith m state cells list answer (Settings-in.Fit σ) = rowFrom σ m state cells list answer (stateIn state)
+rowWith m state cells list answer Settings-in.Unfit = drawnListed 255 state cells list answer
 
-unfoldable pub hostRow : List ℕ → List ℕ → List ℕ → List ℕ → List ℕ → Drawn
-hostRow settings m state cells answer =
-    if eqb (length answer) 8 then rowWith m state cells answer (settingsIn settings) else drawn 255 state cells answer
+unfoldable pub hostRow : List ℕ → List ℕ → List ℕ → List ℕ → List ℕ → List ℕ → DrawnListed
+hostRow settings m state cells list answer =
+    if eqb (length answer) 8 then rowWith m state cells list answer (settingsIn settings) else drawnListed 255 state cells list answer
 
 -- the latch that a frame hands on
 abbrev pub latchFrom : ℕ → List ℕ → StateIn → Answered

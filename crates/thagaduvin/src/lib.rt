@@ -6,12 +6,14 @@ use numbers::decode;
 use numbers::decode::SettingsIn;
 use numbers::decode::StateIn;
 ghost use mathlib.Core.Path.{_≡_};
-ghost use Rattle.answers.specs.AfterCall.{answered, stated, drawn};
+ghost use Rattle.answers.specs.AfterCall.{answered};
+ghost use Rattle.listed_answers.specs.AfterListed.{statedListed, drawnListed};
 ghost use Rattle.thagaduvin.specs.Calls.{hostSheet, hostStart, hostRow, hostLatch};
 
 mod bus_calls; // the call of the bus report
 mod effect_calls; // the calls on effects of rows
 mod mail_calls; // the calls of a row's text
+mod writer_calls; // the writer call of two desks
 
 // The settings sheet, in `answer`.
 #[no_mangle]
@@ -27,16 +29,17 @@ pub extern "C" fn thagaduvin_sheet(settings: &[u32], answer: &mut [u32]) -> u8
     }
 }
 
-// A frame's first state from a latch, in `state`, and the words read.
+// A frame's first state from a latch, in `state`, the words read, and their addresses in `list`.
 #[no_mangle]
 pub extern "C" fn thagaduvin_start(
     settings: &[u32],
     memory: &[u16],
     latch: u16,
     state: &mut [u32],
+    list: &mut [u32],
     answer: &mut [u32],
 ) -> u8
-    ensures { λ r. ⌜ stated r (now (state .exit)) (now (answer .exit)) ≡ hostStart (now (settings .entry)) (now (memory .entry)) latch (now (state .entry)) (now (answer .entry)) ⌝ }
+    ensures { λ r. ⌜ statedListed r (now (state .exit)) (now (list .exit)) (now (answer .exit)) ≡ hostStart (now (settings .entry)) (now (memory .entry)) latch (now (state .entry)) (now (list .entry)) (now (answer .entry)) ⌝ }
 {
     if state.len() != 23 {
         return 255;
@@ -45,28 +48,29 @@ pub extern "C" fn thagaduvin_start(
         return 255;
     }
     match decode::settings_in(settings) {
-        SettingsIn::Fit(s) => answers::start(s, memory, latch, state, answer),
+        SettingsIn::Fit(s) => listed_answers::start(s, memory, latch, state, list, answer),
         SettingsIn::Unfit => 255,
     }
 }
 
-// The next row: its cells in `cells`, the next state in `state`.
+// The next row: its cells in `cells`, the next state in `state`, the addresses of the words read in `list`.
 #[no_mangle]
 pub extern "C" fn thagaduvin_row(
     settings: &[u32],
     memory: &[u16],
     state: &mut [u32],
     cells: &mut [u32],
+    list: &mut [u32],
     answer: &mut [u32],
 ) -> u8
-    ensures { λ r. ⌜ drawn r (now (state .exit)) (now (cells .exit)) (now (answer .exit)) ≡ hostRow (now (settings .entry)) (now (memory .entry)) (now (state .entry)) (now (cells .entry)) (now (answer .entry)) ⌝ }
+    ensures { λ r. ⌜ drawnListed r (now (state .exit)) (now (cells .exit)) (now (list .exit)) (now (answer .exit)) ≡ hostRow (now (settings .entry)) (now (memory .entry)) (now (state .entry)) (now (cells .entry)) (now (list .entry)) (now (answer .entry)) ⌝ }
 {
     if answer.len() != 8 {
         return 255;
     }
     match decode::settings_in(settings) {
         SettingsIn::Fit(s) => match decode::state_in(state) {
-            StateIn::Fit(t) => answers::next_row(s, memory, t, state, cells, answer),
+            StateIn::Fit(t) => listed_answers::next_row(s, memory, t, state, cells, list, answer),
             StateIn::Unfit => 255,
         },
         SettingsIn::Unfit => 255,

@@ -13,7 +13,7 @@ use Rattle.numbers.specs.declared.decode.SettingsIn.{SettingsIn}
 use Rattle.numbers.specs.declared.decode.SettingsIn.the-variants as Settings-in
 use Rattle.numbers.specs.Decode.{settingsIn}
 use Rattle.answers.specs.AfterCall.{Stated, stated}
-use Rattle.shifts.specs.AfterShift.{scrollOf, afterShift, besideFrom}
+use Rattle.shifts.specs.AfterShift.{scrollOf, afterShift, BesideDone, besideDone, besideFrom}
 
 -- a shift call: status, scroll and answer
 abbrev pub shiftFrom : List ℕ → PointerWords → List ℕ → List ℕ → SettingsIn → Stated
@@ -26,13 +26,13 @@ hostShift settings m soft scroll answer =
     then shiftFrom m soft scroll answer (settingsIn settings)
     else stated 255 scroll answer
 
--- a row beside the cut: status, row buffer and answer
-abbrev pub besideWith : List ℕ → ℤ → PointerWords → ℕ → List ℕ → List ℕ → List ℕ → SettingsIn → Stated
-besideWith m shift soft latch state cells answer (Settings-in.Fit σ) = besideFrom σ m shift soft latch state cells answer
-besideWith m shift soft latch state cells answer Settings-in.Unfit = stated 255 cells answer
+-- a row beside the cut: status, row buffer, list and answer
+abbrev pub besideWith : List ℕ → ℤ → PointerWords → ℕ → List ℕ → List ℕ → List ℕ → List ℕ → SettingsIn → BesideDone
+besideWith m shift soft latch state cells list answer (Settings-in.Fit σ) = besideFrom σ m shift soft latch state cells list answer
+besideWith m shift soft latch state cells list answer Settings-in.Unfit = besideDone 255 cells list answer
 
-unfoldable pub hostBeside : List ℕ → List ℕ → ℤ → PointerWords → ℕ → List ℕ → List ℕ → List ℕ → Stated
-hostBeside settings m shift soft latch state cells answer =
+unfoldable pub hostBeside : List ℕ → List ℕ → ℤ → PointerWords → ℕ → List ℕ → List ℕ → List ℕ → List ℕ → BesideDone
+hostBeside settings m shift soft latch state cells list answer =
     if eqb (length answer) 8
-    then besideWith m shift soft latch state cells answer (settingsIn settings)
-    else stated 255 cells answer
+    then besideWith m shift soft latch state cells list answer (settingsIn settings)
+    else besideDone 255 cells list answer

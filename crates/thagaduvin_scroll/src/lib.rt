@@ -5,6 +5,7 @@ use numbers::decode::SettingsIn;
 use settings::PointerWords;
 ghost use mathlib.Core.Path.{_≡_};
 ghost use Rattle.answers.specs.AfterCall.{stated};
+ghost use Rattle.shifts.specs.AfterShift.{besideDone};
 ghost use Rattle.thagaduvin_scroll.specs.ScrollCalls.{hostShift, hostBeside};
 
 // The shift of the next frame, in `scroll`, from the last one there; the hard top, in `answer`. `first` and `second` are the soft top.
@@ -32,7 +33,7 @@ pub extern "C" fn thagaduvin_shift(
     }
 }
 
-// The row beside the cut of a frame with a shift, its cells in `cells`; nothing of it goes on into the frame.
+// The row beside the cut of a frame with a shift, its cells in `cells`, the addresses of the words read in `list`; nothing of it goes on into the frame.
 #[no_mangle]
 pub extern "C" fn thagaduvin_beside(
     settings: &[u32],
@@ -43,9 +44,10 @@ pub extern "C" fn thagaduvin_beside(
     latch: u16,
     state: &[u32],
     cells: &mut [u32],
+    list: &mut [u32],
     answer: &mut [u32],
 ) -> u8
-    ensures { λ r. ⌜ stated r (now (cells .exit)) (now (answer .exit)) ≡ hostBeside (now (settings .entry)) (now (memory .entry)) shift (record { first = first; second = second }) latch (now (state .entry)) (now (cells .entry)) (now (answer .entry)) ⌝ }
+    ensures { λ r. ⌜ besideDone r (now (cells .exit)) (now (list .exit)) (now (answer .exit)) ≡ hostBeside (now (settings .entry)) (now (memory .entry)) shift (record { first = first; second = second }) latch (now (state .entry)) (now (cells .entry)) (now (list .entry)) (now (answer .entry)) ⌝ }
 {
     if answer.len() != 8 {
         return 255;
@@ -53,7 +55,7 @@ pub extern "C" fn thagaduvin_beside(
     let soft = PointerWords { first, second };
     match decode::settings_in(settings) {
         SettingsIn::Fit(s) => {
-            shifts::beside_from(s, memory, shift, soft, latch, state, cells, answer)
+            shifts::beside_from(s, memory, shift, soft, latch, state, cells, list, answer)
         }
         SettingsIn::Unfit => 255,
     }

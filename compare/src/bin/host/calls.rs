@@ -1,8 +1,10 @@
 //! Each call made on both sides, compared and counted.
 
-use crate::lent::{Differs, Lent};
+use crate::desks::{Desks, Shared};
+use crate::lent::{Differs, Lent, List};
 use compare::bus::Used;
-use compare::host::{Beside, PART, PREFIX};
+use compare::desks::Spans;
+use compare::host::{Beside, PART, PREFIX, ROW_WORDS};
 use compare::{host, library};
 use std::fmt::{self, Debug, Formatter};
 
@@ -12,7 +14,7 @@ pub struct Difference(pub String);
 pub type Checked<T> = Result<T, Difference>;
 
 /// The lines of the table.
-const LINES: [&str; 15] = [
+const LINES: [&str; 16] = [
     "sheet",
     "start",
     "row",
@@ -27,12 +29,13 @@ const LINES: [&str; 15] = [
     "bus",
     "writer of mail",
     "reader of mail",
+    "writer of a word",
     "all",
 ];
 
 /// The statuses of the table: the refusals that these calls can give, 5 to show that none does, and 255.
-const STATUSES: [u8; 20] = [
-    0, 1, 2, 3, 4, 5, 6, 7, 8, 9, 10, 11, 12, 13, 14, 20, 21, 23, 24, 255,
+const STATUSES: [u8; 23] = [
+    0, 1, 2, 3, 4, 5, 6, 7, 8, 9, 10, 11, 12, 13, 14, 15, 16, 20, 21, 23, 24, 25, 255,
 ];
 
 /// Calls by line and status; any other status is counted with 255.
@@ -48,6 +51,7 @@ pub struct Tally {
     second_refused: u64,
     pub in_turn: InTurn,
     pub scrolls: Scrolls,
+    pub desks: Desks,
 }
 
 /// Counts of frames drawn in turn.
@@ -200,6 +204,7 @@ impl Tally {
         );
         self.in_turn.print();
         self.scrolls.print();
+        self.desks.print();
     }
 }
 
@@ -208,6 +213,7 @@ pub struct Calls {
     pub tally: Tally,
     pub state: Lent,
     pub cells: Lent,
+    pub list: List,
     pub answer: Lent,
     pub effect: Lent,
     pub scroll: Lent,
@@ -246,6 +252,7 @@ impl Calls {
             tally: Tally::default(),
             state: Lent::new("state"),
             cells: Lent::new("cells"),
+            list: List::new(),
             answer: Lent::new("answer"),
             effect: Lent::new("effect"),
             scroll: Lent::new("scroll"),
@@ -274,19 +281,36 @@ impl Calls {
         memory: &[u16],
         latch: u16,
         states: usize,
+        places: usize,
         answers: usize,
     ) -> Checked<u8> {
-        let given = ("start", settings, memory.len(), latch);
-        let (state, answer) = (&mut self.state, &mut self.answer);
+        let given = ("start", settings, memory.len(), latch, places);
+        let (state, list, answer) = (&mut self.state, &mut self.list, &mut self.answer);
         state.mark(states);
+        list.lend(places);
         answer.mark(answers);
-        let statuses = [
-            host::start(settings, memory, latch, state.ours(), answer.ours()),
-            library::start(settings, memory, latch, state.theirs(), answer.theirs()),
-        ];
-        self.tally.count_call(1, statuses[0]);
-        self.tally.latched += u64::from(statuses[0] == 0 && latch != 0);
-        compare(statuses, &[state, answer], &given)
+        let ours = host::start(
+            settings,
+            memory,
+            latch,
+            state.ours(),
+            list.ours(),
+            answer.ours(),
+        );
+        let theirs = library::start(
+            settings,
+            memory,
+            latch,
+            state.theirs(),
+            list.theirs(),
+            answer.theirs(),
+        );
+        if ours == 0 {
+            list.wrote(answer.ours()[PREFIX]);
+        }
+        self.tally.count_call(1, ours);
+        self.tally.latched += u64::from(ours == 0 && latch != 0);
+        compare([ours, theirs], &[state, list, answer], &given)
     }
 
     pub fn row(
@@ -295,25 +319,37 @@ impl Calls {
         memory: &[u16],
         from: &[u32],
         cells: usize,
+        places: usize,
         answers: usize,
     ) -> Checked<u8> {
-        let given = ("row", settings, memory.len(), from, cells, answers);
+        let given = ("row", settings, memory.len(), from, cells, places, answers);
         self.cells.mark(cells);
         let (state, cells, answer) = (&mut self.state, &mut self.cells, &mut self.answer);
+        let list = &mut self.list;
         state.put(from);
+        list.lend(places);
         answer.mark(answers);
-        let statuses = [
-            host::row(settings, memory, state.ours(), cells.ours(), answer.ours()),
-            library::row(
-                settings,
-                memory,
-                state.theirs(),
-                cells.theirs(),
-                answer.theirs(),
-            ),
-        ];
-        self.tally.count_call(2, statuses[0]);
-        compare(statuses, &[state, cells, answer], &given)
+        let ours = host::row(
+            settings,
+            memory,
+            state.ours(),
+            cells.ours(),
+            list.ours(),
+            answer.ours(),
+        );
+        let theirs = library::row(
+            settings,
+            memory,
+            state.theirs(),
+            cells.theirs(),
+            list.theirs(),
+            answer.theirs(),
+        );
+        if ours == 0 {
+            list.wrote(answer.ours()[ROW_WORDS]);
+        }
+        self.tally.count_call(2, ours);
+        compare([ours, theirs], &[state, cells, list, answer], &given)
     }
 
     pub fn effect(
@@ -400,26 +436,70 @@ impl Calls {
         memory: &[u16],
         from: &Beside,
         cells: usize,
+        places: usize,
         answers: usize,
     ) -> Checked<u8> {
-        let given = ("beside", settings, memory.len(), from, cells, answers);
+        let given = (
+            "beside",
+            settings,
+            memory.len(),
+            from,
+            cells,
+            places,
+            answers,
+        );
         self.cells.mark(cells);
         let (state, cells, answer) = (&mut self.state, &mut self.cells, &mut self.answer);
+        let list = &mut self.list;
         state.put(from.state);
+        list.lend(places);
         answer.mark(answers);
         let ours = Beside {
             state: state.ours(),
             ..*from
         };
-        let ours = host::beside(settings, memory, &ours, cells.ours(), answer.ours());
+        let ours = host::beside(
+            settings,
+            memory,
+            &ours,
+            cells.ours(),
+            list.ours(),
+            answer.ours(),
+        );
         let theirs = Beside {
             state: state.theirs(),
             ..*from
         };
-        let theirs = library::beside(settings, memory, &theirs, cells.theirs(), answer.theirs());
+        let theirs = library::beside(
+            settings,
+            memory,
+            &theirs,
+            cells.theirs(),
+            list.theirs(),
+            answer.theirs(),
+        );
+        if ours == 0 {
+            list.wrote(answer.ours()[ROW_WORDS]);
+        }
         self.tally.count_call(10, ours);
         self.tally.scrolls.count_beside(from.shift, ours);
-        compare([ours, theirs], &[state, cells, answer], &given)
+        compare([ours, theirs], &[state, cells, list, answer], &given)
+    }
+
+    pub fn write_word(
+        &mut self,
+        memory: &mut Shared,
+        spans: &Spans,
+        address: u32,
+        word: u16,
+    ) -> Checked<u8> {
+        let statuses = [
+            host::write_word(&mut memory.ours, spans, address, word),
+            library::write_word(&mut memory.theirs, spans, address, word),
+        ];
+        self.tally.count_call(14, statuses[0]);
+        memory.near = address as usize / 2;
+        compare(statuses, &[memory], &("write_word", spans, address, word))
     }
 
     pub fn bus(&mut self, burst: u16, used: &Used, from: &[u64], answers: usize) -> Checked<u8> {

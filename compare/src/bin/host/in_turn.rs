@@ -6,8 +6,8 @@ use crate::frame::Frame;
 use crate::{must, odd};
 use compare::generate::Rng;
 use compare::host::{
-    LATCH_ANSWER, PREFIX, ROW_ANSWER, ROW_LINES, ROW_WORDS, SETTINGS, SHEET_ANSWER, SHEET_LINES,
-    START_ANSWER, STATE, UNFIT, WINDOW_NUMBER,
+    LATCH_ANSWER, PLACES, PREFIX, ROW_ANSWER, ROW_LINES, ROW_WORDS, SETTINGS, SHEET_ANSWER,
+    SHEET_LINES, START_ANSWER, STATE, UNFIT, WINDOW_NUMBER,
 };
 use compare::rules::{pointer, step, CELLS};
 use std::iter::successors;
@@ -71,7 +71,7 @@ fn numbered(before: &[u32; STATE], after: &[u32; STATE], cells: &[u32; CELLS]) -
 }
 
 /// Row calls from a frame's first state on, until they have drawn all lines, or one is refused, or
-/// the frame is left. A call refused 1 is no row, and does not end the frame. Gives the last state;
+/// the frame is left. A call refused 1 or 25 is no row, and does not end the frame. Gives the last state;
 /// the words of each row come after those of the start.
 fn rows(
     calls: &mut Calls,
@@ -88,10 +88,17 @@ fn rows(
             return Ok((End::Left, state));
         }
         if rng.once_in(30) {
-            let status = calls.row(settings, memory, &state, CELLS - 1, ROW_ANSWER)?;
+            let short = PLACES - rng.below(2);
+            let status = calls.row(settings, memory, &state, CELLS - 1, short, ROW_ANSWER)?;
             must(status == 1, "a row of 131 cells is refused 1", &state)?;
+            let status = calls.row(settings, memory, &state, CELLS, PLACES - 1, ROW_ANSWER)?;
+            must(
+                status == 25,
+                "a list of 11,999 places is refused 25",
+                &state,
+            )?;
         }
-        let status = calls.row(settings, memory, &state, CELLS, ROW_ANSWER)?;
+        let status = calls.row(settings, memory, &state, CELLS, PLACES, ROW_ANSWER)?;
         let before = state;
         state = calls.state.left();
         let answer: [u32; ROW_ANSWER] = calls.answer.left();
@@ -141,7 +148,7 @@ pub fn frame(
     };
     calls.sheet(settings, SHEET_ANSWER)?;
     let sheet: [u32; SHEET_ANSWER] = calls.answer.left();
-    let status = calls.start(settings, memory, latch, STATE, START_ANSWER)?;
+    let status = calls.start(settings, memory, latch, STATE, PLACES, START_ANSWER)?;
     if status == UNFIT {
         return Ok(refused);
     }

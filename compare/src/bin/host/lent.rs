@@ -110,6 +110,92 @@ impl<N: Number> Lent<N> {
     }
 }
 
+/// Most places of a list that is lent, and how many calls share a look at all of them.
+const LISTED: usize = 13_000;
+const LOOKS: u32 = 16;
+
+/// The same list of addresses twice, each copy between guard numbers. It is long, so the places that a call did not write
+/// stay as they are for the next one, and are looked at in one call of sixteen: what is written there by mistake is found
+/// then.
+pub struct List {
+    ours: Vec<u32>,
+    theirs: Vec<u32>,
+    count: usize,
+    /// Places from the first on that the last call wrote.
+    written: usize,
+    mark: u32,
+    calls: u32,
+}
+
+impl List {
+    pub fn new() -> List {
+        let all: Vec<u32> = (0..(2 * GUARD + LISTED) as u32)
+            .map(|n| u32::marked(0x5A5A_0000 + n))
+            .collect();
+        List {
+            ours: all.clone(),
+            theirs: all,
+            count: 0,
+            written: 0,
+            mark: 1,
+            calls: 0,
+        }
+    }
+
+    /// Lends so many places. What the last call wrote is marked anew.
+    pub fn lend(&mut self, count: usize) {
+        self.mark = self.mark.wrapping_mul(0x2C92_77B5).wrapping_add(1);
+        for n in GUARD..GUARD + self.written {
+            let number = u32::marked(self.mark.wrapping_add(n as u32));
+            self.ours[n] = number;
+            self.theirs[n] = number;
+        }
+        self.count = count;
+        self.written = 0;
+        self.calls += 1;
+    }
+
+    /// Of a call that was accepted: the words that it read.
+    pub fn wrote(&mut self, words: u32) {
+        self.written = words as usize;
+    }
+
+    pub fn ours(&mut self) -> &mut [u32] {
+        &mut self.ours[GUARD..GUARD + self.count]
+    }
+
+    pub fn theirs(&mut self) -> &mut [u32] {
+        &mut self.theirs[GUARD..GUARD + self.count]
+    }
+
+    /// The addresses that the last call left.
+    pub fn read(&self) -> &[u32] {
+        &self.ours[GUARD..GUARD + self.written]
+    }
+}
+
+impl Differs for List {
+    fn difference(&self) -> Option<String> {
+        let whole = self.ours.len();
+        let near = (2 * GUARD + self.written + 64).min(whole);
+        let looked = if self.calls.is_multiple_of(LOOKS) {
+            whole
+        } else {
+            near
+        };
+        let (ours, theirs) = (&self.ours[..looked], &self.theirs[..looked]);
+        if ours == theirs {
+            return None;
+        }
+        let n = (0..looked).find(|&n| ours[n] != theirs[n])?;
+        let place = n as i64 - GUARD as i64;
+        Some(format!(
+            "list of {} places, place {place} after {} words: here {:X}, library {:X}",
+            self.count, self.written, ours[n], theirs[n]
+        ))
+    }
+}
+
 /// What a call may leave different on the two sides.
 pub trait Differs {
     /// The first place where the two differ, the guards included. This side cannot write outside

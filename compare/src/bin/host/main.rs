@@ -6,6 +6,7 @@
 
 mod bus;
 mod calls;
+mod desks;
 mod frame;
 mod in_turn;
 mod lent;
@@ -15,11 +16,11 @@ mod scroll;
 
 use calls::{Calls, Checked, Difference};
 use compare::bus::Used;
-use compare::generate::Rng;
+use compare::generate::{self, Rng};
 use compare::host::{
-    Beside, APPLY_ANSWER, BUS_ANSWER, EFFECT, LATCH_ANSWER, MAIL_ANSWER, PREFIX, ROW_ANSWER,
-    SCROLL, SETTINGS, SHEET_ANSWER, SHEET_EVEN, SHEET_ODD, SHIFT_ANSWER, START_ANSWER, STATE,
-    TOTALS, UNFIT,
+    Beside, APPLY_ANSWER, BUS_ANSWER, EFFECT, LATCH_ANSWER, MAIL_ANSWER, PLACES, PREFIX,
+    ROW_ANSWER, SCROLL, SETTINGS, SHEET_ANSWER, SHEET_EVEN, SHEET_ODD, SHIFT_ANSWER, START_ANSWER,
+    STATE, TOTALS, UNFIT,
 };
 use compare::rules::CELLS;
 use frame::Frame;
@@ -36,6 +37,7 @@ struct Drawn {
     status: u8,
     state: [u32; STATE],
     cells: [u32; CELLS],
+    list: Vec<u32>,
     answer: [u32; ROW_ANSWER],
 }
 
@@ -48,11 +50,13 @@ fn must(holds: bool, what: &str, given: &dyn Debug) -> Checked<()> {
 }
 
 fn draw(calls: &mut Calls, frame: &Frame, from: &[u32; STATE]) -> Checked<Drawn> {
-    let status = calls.row(&frame.settings, frame.memory(), from, CELLS, ROW_ANSWER)?;
+    let (settings, memory) = (&frame.settings, frame.memory());
+    let status = calls.row(settings, memory, from, CELLS, PLACES, ROW_ANSWER)?;
     Ok(Drawn {
         status,
         state: calls.state.left(),
         cells: calls.cells.left(),
+        list: calls.list.read().to_vec(),
         answer: calls.answer.left(),
     })
 }
@@ -118,8 +122,8 @@ fn walk(
     let mut refused = 0;
     while states.len() < ROWS && refused < 2 {
         if rng.once_in(12) {
-            let cells = rng.pick(&[0, 1, 131, 133, 264]);
-            calls.row(settings, memory, &state, cells, ROW_ANSWER)?;
+            let (cells, places) = odd::sizes(rng);
+            calls.row(settings, memory, &state, cells, places, ROW_ANSWER)?;
         }
         let drawn = draw(calls, frame, &state)?;
         if drawn.status == UNFIT {
@@ -214,9 +218,14 @@ fn odd_settings(
         let settings = odd::settings(rng, &frame.settings);
         sheet(calls, &settings)?;
         let latch = in_turn::latch(rng);
-        calls.start(&settings, frame.memory(), latch, STATE, START_ANSWER)?;
+        let (mut cells, mut places) = (CELLS, PLACES);
+        if rng.once_in(8) {
+            (cells, places) = odd::sizes(rng);
+        }
+        let memory = frame.memory();
+        calls.start(&settings, memory, latch, STATE, places, START_ANSWER)?;
         let state = rng.pick(real);
-        calls.row(&settings, frame.memory(), &state, CELLS, ROW_ANSWER)?;
+        calls.row(&settings, memory, &state, cells, places, ROW_ANSWER)?;
         calls.effect(&settings, frame.memory(), &state, EFFECT)?;
     }
     Ok(())
@@ -243,6 +252,7 @@ fn unfit(calls: &mut Calls, rng: &mut Rng, frame: &Frame, real: &[u32; STATE]) -
     let effect = odd::effect(rng);
     let bad_effect = odd::no_effect(rng);
     let cells = rng.pick(&[CELLS, CELLS, 0, 133]);
+    let places = rng.pick(&[PLACES, PLACES, generate::places(&mut rng.clone())]);
     let latch = rng.word();
     let soft = scroll::soft_top(rng, frame);
     let last = odd::scroll(rng);
@@ -260,12 +270,13 @@ fn unfit(calls: &mut Calls, rng: &mut Rng, frame: &Frame, real: &[u32; STATE]) -
     let status = match rng.below(31) {
         0 => calls.sheet(&bad_settings, SHEET_ANSWER),
         1 => calls.sheet(settings, odd::count(rng, SHEET_ANSWER)),
-        2 => calls.start(&bad_settings, memory, latch, STATE, START_ANSWER),
+        2 => calls.start(&bad_settings, memory, latch, STATE, places, START_ANSWER),
         3 => calls.start(
             settings,
             memory,
             latch,
             odd::count(rng, STATE),
+            places,
             START_ANSWER,
         ),
         4 => calls.start(
@@ -273,11 +284,15 @@ fn unfit(calls: &mut Calls, rng: &mut Rng, frame: &Frame, real: &[u32; STATE]) -
             memory,
             latch,
             STATE,
+            places,
             odd::count(rng, START_ANSWER),
         ),
-        5 => calls.row(&bad_settings, memory, real, cells, ROW_ANSWER),
-        6 => calls.row(settings, memory, &bad_state, cells, ROW_ANSWER),
-        7 => calls.row(settings, memory, real, cells, odd::count(rng, ROW_ANSWER)),
+        5 => calls.row(&bad_settings, memory, real, cells, places, ROW_ANSWER),
+        6 => calls.row(settings, memory, &bad_state, cells, places, ROW_ANSWER),
+        7 => {
+            let answers = odd::count(rng, ROW_ANSWER);
+            calls.row(settings, memory, real, cells, places, answers)
+        }
         8 => calls.effect(&bad_settings, memory, real, EFFECT),
         9 => calls.effect(settings, memory, &bad_state, EFFECT),
         10 => calls.effect(settings, memory, real, odd::count(rng, EFFECT)),
@@ -298,12 +313,12 @@ fn unfit(calls: &mut Calls, rng: &mut Rng, frame: &Frame, real: &[u32; STATE]) -
         }
         20 | 21 => {
             let from = beside(odd::shift(rng), real);
-            calls.beside(&bad_settings, memory, &from, cells, ROW_ANSWER)
+            calls.beside(&bad_settings, memory, &from, cells, places, ROW_ANSWER)
         }
         22 => {
             let from = beside(odd::shift(rng), real);
             let answers = odd::count(rng, ROW_ANSWER);
-            calls.beside(settings, memory, &from, cells, answers)
+            calls.beside(settings, memory, &from, cells, places, answers)
         }
         23 => {
             let totals = vec![0; odd::count(rng, TOTALS)];
@@ -333,7 +348,7 @@ fn unfit(calls: &mut Calls, rng: &mut Rng, frame: &Frame, real: &[u32; STATE]) -
                 odd::shift(rng).unsigned_abs().clamp(1, 32) as i32,
                 &bad_state,
             );
-            calls.beside(settings, memory, &from, cells, ROW_ANSWER)
+            calls.beside(settings, memory, &from, cells, places, ROW_ANSWER)
         }
     }?;
     let given = (bad_settings, bad_state, bad_effect);
@@ -348,7 +363,12 @@ fn unfit(calls: &mut Calls, rng: &mut Rng, frame: &Frame, real: &[u32; STATE]) -
 fn compare(calls: &mut Calls, rng: &mut Rng, frame: &Frame) -> Checked<()> {
     sheet(calls, &frame.settings)?;
     let latch = in_turn::latch(rng);
-    let status = calls.start(&frame.settings, frame.memory(), latch, STATE, START_ANSWER)?;
+    let (settings, memory) = (&frame.settings, frame.memory());
+    if rng.once_in(6) {
+        let places = generate::places(rng);
+        calls.start(settings, memory, latch, STATE, places, START_ANSWER)?;
+    }
+    let status = calls.start(settings, memory, latch, STATE, PLACES, START_ANSWER)?;
     let mut real = Vec::new();
     if status == 0 {
         let first = calls.state.left();
@@ -363,6 +383,7 @@ fn compare(calls: &mut Calls, rng: &mut Rng, frame: &Frame) -> Checked<()> {
     in_turn::frames(calls, rng, frame)?;
     scroll::frames(calls, rng, frame)?;
     scroll::odd_rows(calls, rng, frame, &real)?;
+    desks::take_turns(calls, rng, frame)?;
     odd_settings(calls, rng, frame, &real)?;
     odd_states(calls, rng, frame, &real)?;
     odd_effects(calls, rng)?;

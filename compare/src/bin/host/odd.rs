@@ -1,11 +1,11 @@
 //! Settings changed at random, states that no start gives, effects of no row, scrolls of no frame, and
 //! slices that do not fit.
 
-use compare::generate::Rng;
+use compare::generate::{self, Rng};
 use compare::host::{
-    EFFECT, PART, PART_REFUSALS, ROW_BLOCK, ROW_BLOCK_FROM, SCROLL, SETTINGS, SETTINGS_MOST, STATE,
-    STATE_MOST, WINDOW_BLOCK, WINDOW_BLOCK_FROM, WINDOW_NUMBER, WINDOW_ROW_BLOCK,
-    WINDOW_ROW_BLOCK_FROM,
+    EFFECT, PART, PART_REFUSALS, PLACES, ROW_BLOCK, ROW_BLOCK_FROM, SCROLL, SETTINGS,
+    SETTINGS_MOST, STATE, STATE_MOST, WINDOW_BLOCK, WINDOW_BLOCK_FROM, WINDOW_NUMBER,
+    WINDOW_ROW_BLOCK, WINDOW_ROW_BLOCK_FROM,
 };
 use compare::rules::CELLS;
 
@@ -297,6 +297,15 @@ pub fn scroll(rng: &mut Rng) -> [u32; SCROLL] {
     let phase = rng.pick(&[0, 7, 8, 255, 256, u32::MAX]);
     let direction = rng.pick(&[0, 1, 0, 1, 2, 0x100, u32::MAX]);
     [shift(rng) as u32, phase, direction]
+}
+
+/// Counts of cells and of places, not both a row's.
+pub fn sizes(rng: &mut Rng) -> (usize, usize) {
+    match rng.below(3) {
+        0 => (generate::cells(rng), PLACES),
+        1 => (CELLS, generate::places(rng)),
+        _ => (generate::cells(rng), generate::places(rng)),
+    }
 }
 
 /// A count other than the right one.

@@ -5,7 +5,7 @@ use crate::calls::{Calls, Checked, Difference};
 use crate::frame::Frame;
 use crate::{in_turn, must, odd};
 use compare::generate::{scroll_word, Rng};
-use compare::host::{Beside, PREFIX, ROW_ANSWER, SCROLL, SETTINGS, SHIFT_ANSWER, STATE};
+use compare::host::{Beside, PLACES, PREFIX, ROW_ANSWER, SCROLL, SETTINGS, SHIFT_ANSWER, STATE};
 use compare::rules::{pointer, step, CELLS};
 
 /// Shift calls of one random frame's settings and memory, and how many of them may be refused.
@@ -194,7 +194,14 @@ impl Console<'_> {
             latch,
             state: &state,
         };
-        calls.beside(&self.settings, &self.memory, &from, CELLS, ROW_ANSWER)?;
+        calls.beside(
+            &self.settings,
+            &self.memory,
+            &from,
+            CELLS,
+            PLACES,
+            ROW_ANSWER,
+        )?;
         Ok(())
     }
 
@@ -248,7 +255,7 @@ pub fn frames(calls: &mut Calls, rng: &mut Rng, of: &Frame) -> Checked<()> {
     })
 }
 
-/// Rows beside the cut of any shift, state and row buffer.
+/// Rows beside the cut of any shift, state, row buffer and list.
 pub fn odd_rows(
     calls: &mut Calls,
     rng: &mut Rng,
@@ -275,11 +282,11 @@ pub fn odd_rows(
             latch: in_turn::latch(rng),
             state: &state,
         };
-        let cells = match rng.below(6) {
-            0 => rng.pick(&[0, 1, 131, 133, 264]),
-            _ => CELLS,
+        let (cells, places) = match rng.below(4) {
+            0 => odd::sizes(rng),
+            _ => (CELLS, PLACES),
         };
-        calls.beside(&settings, frame.memory(), &from, cells, ROW_ANSWER)?;
+        calls.beside(&settings, frame.memory(), &from, cells, places, ROW_ANSWER)?;
     }
     Ok(())
 }

@@ -10,7 +10,7 @@ use Rattle.thagaduvin.proofs.thagaduvin_row.Tie as tie
 
 next-row-requires : tie.Need-next-row-requires
 next-row-requires c κs =
-    (state-size _ _ (sym (c .before .before .before .before .before .before .state-in .ensures) ∙ c .before .before .before .before .t .given .1), c .before .before .before .before .before .before .before .before .before .before .before .before .if1 .left)
+    (state-size _ _ (sym (c .before .before .before .before .before .before .before .state-in .ensures) ∙ c .before .before .before .before .before .t .given .1), c .before .before .before .before .before .before .before .before .before .before .before .before .before .if1 .left)
 
 returns : tie.Need-returns
 unfolding hostRow
@@ -20,13 +20,13 @@ returns-2 : tie.Need-returns-2
 unfolding hostRow
 returns-2 c =
     rw (
-      eq-eqb _ _ (c .before .before .before .before .before .before .before .before .before .before .before .before .before .before .before .before .before .before .before .if1 .left),
-      ← c .before .before .before .before .before .before .before .before .before .before .before .before .before .before .before .before .before .before .settings-in .ensures,
-      c .before .before .before .before .before .before .before .before .before .before .before .before .before .before .before .before .s .given .1,
-      ← c .before .before .before .before .before .before .before .before .before .before .before .before .before .state-in .ensures,
-      c .before .before .before .before .before .before .before .before .before .before .before .t .given .1,
+      eq-eqb _ _ (c .before .before .before .before .before .before .before .before .before .before .before .before .before .before .before .before .before .before .before .before .before .before .if1 .left),
+      ← c .before .before .before .before .before .before .before .before .before .before .before .before .before .before .before .before .before .before .before .before .before .settings-in .ensures,
+      c .before .before .before .before .before .before .before .before .before .before .before .before .before .before .before .before .before .before .before .s .given .1,
+      ← c .before .before .before .before .before .before .before .before .before .before .before .before .before .before .before .before .state-in .ensures,
+      c .before .before .before .before .before .before .before .before .before .before .before .before .before .before .t .given .1,
     )
-    (c .before .before .before .before .before .before .next-row .ensures)
+    (c .before .before .before .before .before .before .before .before .next-row .ensures)
 
 returns-3 : tie.Need-returns-3
 unfolding hostRow
@@ -53,6 +53,7 @@ thagaduvin-row-spec =
     (λ c κs. search needs)
     (λ c. search needs)
     next-row-requires
+    (λ c. search needs)
     (λ c. search needs)
     (λ c. search needs)
     (λ c. search needs)

@@ -16,8 +16,8 @@ returns-2 c = rw (eq-eqb _ _ (c .before .if1 .left), ne-eqb _ _ (c .if2 .taken))
 returns-3 : tie.Need-returns-3
 unfolding hostStart
 returns-3 c =
-    rw (eq-eqb _ _ (c .before .before .before .before .before .before .before .before .before .before .before .before .if1 .left), eq-eqb _ _ (c .before .before .before .before .before .before .before .before .before .before .before .if2 .left), ← c .before .before .before .before .before .before .before .before .before .before .settings-in .ensures, c .before .before .before .before .before .before .before .before .s .given .1)
-    (c .before .before .before .before .start .ensures)
+    rw (eq-eqb _ _ (c .before .before .before .before .before .before .before .before .before .before .before .before .before .before .before .if1 .left), eq-eqb _ _ (c .before .before .before .before .before .before .before .before .before .before .before .before .before .before .if2 .left), ← c .before .before .before .before .before .before .before .before .before .before .before .before .before .settings-in .ensures, c .before .before .before .before .before .before .before .before .before .before .before .s .given .1)
+    (c .before .before .before .before .before .before .start .ensures)
 
 returns-4 : tie.Need-returns-4
 unfolding hostStart
@@ -33,6 +33,7 @@ thagaduvin-start-spec =
     (λ c κs. search needs)
     (λ c. search needs)
     (λ c κs. search needs)
+    (λ c. search needs)
     (λ c. search needs)
     (λ c. search needs)
     (λ c. search needs)

@@ -1,0 +1,9 @@
+pub mod PlaceLaws
+pub mod Trace
+pub mod CodeAddressLaws
+pub mod SideAddressLaws
+pub mod AskedCodes
+pub mod AskedFill
+pub mod AskedCells
+pub mod AskedBlocks
+pub mod Asked

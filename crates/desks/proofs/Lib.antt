@@ -1,0 +1,4 @@
+pub mod ReadLaws
+pub mod Same
+pub mod Depends
+pub mod Writes
