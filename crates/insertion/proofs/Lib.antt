@@ -1,0 +1,16 @@
+pub mod Near
+pub mod Blocks
+pub mod Rows
+pub mod Accepted
+pub mod Starts
+pub mod Chains
+pub mod Told
+pub mod Lower
+pub mod Latches
+pub mod Higher
+pub mod Level
+pub mod Places
+pub mod Inserted
+pub mod Tested
+pub mod Computed
+pub mod Examples
