@@ -1,5 +1,5 @@
-//! Links libthagaduvin.a to the programs that call it, and libthagaduvin_scroll.a to the one that scrolls, from the folder HOST_LIB or
-//! ../target/staticlib.
+//! Links libthagaduvin.a and libthagaduvin_mend.a to the programs that call them, and libthagaduvin_scroll.a to the one that scrolls,
+//! from the folder HOST_LIB or ../target/staticlib.
 
 use std::{env, path::PathBuf};
 
@@ -9,11 +9,13 @@ fn main() {
         |_| PathBuf::from(here).join("../target/staticlib"),
         PathBuf::from,
     );
-    let library = folder.join("libthagaduvin.a");
     println!("cargo::rerun-if-env-changed=HOST_LIB");
-    println!("cargo::rerun-if-changed={}", library.display());
-    for program in ["host", "measure"] {
-        println!("cargo::rustc-link-arg-bin={program}={}", library.display());
+    for name in ["libthagaduvin.a", "libthagaduvin_mend.a"] {
+        let library = folder.join(name);
+        println!("cargo::rerun-if-changed={}", library.display());
+        for program in ["host", "measure"] {
+            println!("cargo::rustc-link-arg-bin={program}={}", library.display());
+        }
     }
     let scroll = folder.join("libthagaduvin_scroll.a");
     println!("cargo::rerun-if-changed={}", scroll.display());

@@ -186,6 +186,16 @@ enum {
     THAGADUVIN_SHIFT_ANSWER    /* 5 numbers */
 };
 
+/* The answer of an accepted mending step. */
+enum {
+    THAGADUVIN_CHANGED = 3,    /* 1 a pointer was set to 0; 0 the frame is drawn to its end, and all is 0 here */
+    THAGADUVIN_CHANGED_ADDRESS, /* where the pointer begins in memory; 0 for TOW, whose two numbers in the settings are then 0 */
+    THAGADUVIN_CHANGED_FIRST,  /* its first word before */
+    THAGADUVIN_CHANGED_SECOND, /* its second word before */
+    THAGADUVIN_CHANGED_NUMBER, /* the number of the refusal that it is to blame for, 7 to 13 */
+    THAGADUVIN_MEND_ANSWER     /* 8 numbers */
+};
+
 /* The running totals of a bus report, 64-bit numbers: all 0 before the first row. An accepted call writes all of them; they are handed to the
  * next call as they stand. */
 enum {
@@ -291,5 +301,15 @@ uint8_t thagaduvin_beside(const uint32_t *settings, size_t settings_count, const
                           int32_t shift, uint16_t soft_first, uint16_t soft_second, uint16_t latch, const uint32_t *state,
                           size_t state_count, uint32_t *cells, size_t cells_count, uint32_t *list, size_t list_count, uint32_t *answer,
                           size_t answer_count);
+
+/* The call that mends is in a library of its own, libthagaduvin_mend.a. */
+
+/* One step of mending a damaged list: a frame is drawn from `latch`, and at a refusal 7 to 13 the pointer to blame for it is set to 0: 7 the
+ * pointer in use, 13 the attribute pointer, 9 and 10 the one that led to the row block or window row block, 8, 11 and 12 the one that led to
+ * the window. Its two words become 0, in `memory` or, for TOW, in `settings`; nothing else changes. Status 0 with CHANGED 1: call again, from the same
+ * latch; each change leaves fewer words that are not 0, so this ends. Status 0 with CHANGED 0: the list is drawn to its end. Refusals 2, 6, 14
+ * and 7 on a main block are given as they are, and nothing is changed. */
+uint8_t thagaduvin_mend(uint32_t *settings, size_t settings_count, uint16_t *memory, size_t memory_count, uint16_t latch, uint32_t *answer,
+                        size_t answer_count);
 
 #endif

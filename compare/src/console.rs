@@ -211,6 +211,24 @@ unsafe extern "C" fn thagaduvin_write_word(
 }
 
 #[no_mangle]
+unsafe extern "C" fn thagaduvin_mend(
+    settings: *mut u32,
+    settings_count: usize,
+    memory: *mut u16,
+    memory_count: usize,
+    latch: u16,
+    answer: *mut u32,
+    answer_count: usize,
+) -> u8 {
+    host::mend(
+        from_raw_parts_mut(settings, settings_count),
+        from_raw_parts_mut(memory, memory_count),
+        latch,
+        from_raw_parts_mut(answer, answer_count),
+    )
+}
+
+#[no_mangle]
 unsafe extern "C" fn thagaduvin_bus(
     burst: u16,
     words: u32,

@@ -144,6 +144,20 @@ enum Fault {
     Words,
     Truncated,
     Settings,
+    /// Any of those that a mending can mend, at once.
+    Many,
+    /// Many code and attribute lists outside memory, and fill words: what these cost is a segment's, and no row's.
+    Lists,
+}
+
+impl Fault {
+    /// Whether a mending has a pointer to blame for it.
+    fn mendable(self) -> bool {
+        !matches!(
+            self,
+            Fault::NullTop | Fault::ScrollWindow | Fault::Truncated | Fault::Settings
+        )
+    }
 }
 
 const FAULTS: [Fault; 14] = [
@@ -268,6 +282,8 @@ struct Frame {
     settings: Settings,
     image: Image,
     fault: Fault,
+    /// Where faults come at once, how much rarer each is.
+    rarer: usize,
     fill_flag: bool,
     /// One code in this many invokes; 0 for none.
     density: usize,
@@ -474,6 +490,7 @@ impl Frame {
             settings,
             image,
             fault,
+            rarer: rng.pick(&[1, 3, 8, 20]),
             fill_flag: rng.once_in(2) || fault == Fault::FillWord,
             density: rng.pick(&[0, 1, 2, 3, 3, 3, 8, 20]),
             rows: Vec::new(),
@@ -488,7 +505,11 @@ impl Frame {
 
     /// Whether the frame's fault is this one and falls on this place.
     fn falls(&self, rng: &mut Rng, fault: Fault, times: usize) -> bool {
-        self.fault == fault && rng.once_in(times)
+        match self.fault {
+            Fault::Many => fault.mendable() && rng.once_in(times * self.rarer),
+            Fault::Lists => fault == Fault::FillWord && rng.once_in(times),
+            own => own == fault && rng.once_in(times),
+        }
     }
 
     fn code(&self, rng: &mut Rng, invoking: bool) -> u8 {
@@ -519,7 +540,8 @@ impl Frame {
 
     /// Lays a segment's lists and gives its five words.
     fn segment(&mut self, rng: &mut Rng, width: usize) -> [u16; 5] {
-        let far = self.falls(rng, Fault::FarPointer, 8);
+        let far = self.falls(rng, Fault::FarPointer, 8)
+            || self.fault == Fault::Lists && rng.once_in(self.rarer);
         let null_code = rng.once_in(7);
         let mut length = width;
         let mut visible = width;
@@ -821,7 +843,8 @@ impl Frame {
         match self.fault {
             // In a memory too small for the blocks nothing may have been written.
             _ if self.image.written.is_empty() => {}
-            Fault::Words => {
+            Fault::Many if !rng.once_in(3) => {}
+            Fault::Words | Fault::Many => {
                 for _ in 0..rng.range(1, 12) {
                     let index = rng.pick(&self.image.written);
                     let word = &mut self.image.memory[index];
@@ -992,6 +1015,21 @@ pub fn places(rng: &mut Rng) -> usize {
 /// A random case for library calls.
 pub fn case(rng: &mut Rng, shape: &Shape) -> Case {
     let frame = frame(rng, shape);
+    case_of(rng, frame)
+}
+
+/// A random case with any number of faults that a mending can mend.
+pub fn damaged(rng: &mut Rng, shape: &Shape) -> Case {
+    let frame = damaged_frame(rng, shape);
+    case_of(rng, frame)
+}
+
+fn damaged_frame(rng: &mut Rng, shape: &Shape) -> Frame {
+    let fault = rng.pick(&[Fault::Many, Fault::Many, Fault::Many, Fault::Lists]);
+    Frame::new(rng, shape, fault)
+}
+
+fn case_of(rng: &mut Rng, frame: Frame) -> Case {
     let state = rng.once_in(3).then(|| frame.state(rng));
     let calls = rng.range(1, 16);
     let careless = rng.once_in(4);
@@ -1052,6 +1090,14 @@ pub fn records(settings: &Settings, memory: &[u16]) -> Vec<Vec<u8>> {
         }
     }
     all
+}
+
+/// A random script, well formed, of a frame with any number of faults that a mending can mend.
+pub fn damaged_script(rng: &mut Rng, shape: &Shape) -> Vec<u8> {
+    let frame = damaged_frame(rng, shape);
+    let mut bytes = records(&frame.settings, &frame.image.memory).concat();
+    bytes.push(0);
+    bytes
 }
 
 /// A random script: well formed, truncated or damaged.

@@ -6,6 +6,7 @@
 use crate::bus::{Largest, Taken, Totals, Used};
 use crate::desks::{self, Spans};
 use crate::mail;
+use crate::mend;
 use crate::rules::{
     self, Edition, Effect, Field, Fields, Interlace, Part, Pointer, Refusal, Row, Settings, Sheet,
     State, Window,
@@ -42,6 +43,7 @@ pub const SHIFT_ANSWER: usize = PREFIX + 2;
 pub const TOTALS: usize = 7;
 pub const BUS_ANSWER: usize = 2;
 pub const MAIL_ANSWER: usize = 1;
+pub const MEND_ANSWER: usize = PREFIX + 5;
 
 const ANY: u32 = u32::MAX;
 
@@ -580,6 +582,45 @@ pub fn write_word(memory: &mut [u16], spans: &Spans, address: u32, word: u16) ->
     match desks::write(memory, spans, address, word) {
         Ok(()) => 0,
         Err(number) => number,
+    }
+}
+
+/// Places of TOW among settings.
+pub const TOW: usize = 7;
+/// Place of a mending's answer that says whether a pointer was changed.
+pub const MEND_CHANGED: usize = PREFIX;
+
+/// One step of mending: the pointer to blame for a frame's refusal, set to 0.
+#[inline(never)]
+pub fn mend(settings: &mut [u32], memory: &mut [u16], latch: u16, answer: &mut [u32]) -> u8 {
+    let Ok(answer) = <&mut [u32; MEND_ANSWER]>::try_from(answer) else {
+        return UNFIT;
+    };
+    let Some(mut now) = settings_of(settings) else {
+        return UNFIT;
+    };
+    match mend::mend(&mut now, memory, latch) {
+        Ok(None) => {
+            *answer = [0; MEND_ANSWER];
+            0
+        }
+        Ok(Some(change)) => {
+            settings[TOW..TOW + 2].copy_from_slice(&now.tow.map(u32::from));
+            let refusal = change.refusal;
+            let [first, second] = change.words.map(u32::from);
+            *answer = [
+                0,
+                0,
+                0,
+                1,
+                change.address(),
+                first,
+                second,
+                refusal.number.into(),
+            ];
+            0
+        }
+        Err(refusal) => refuse(refusal, answer),
     }
 }
 

@@ -1,6 +1,6 @@
 //! A second implementation of the display rules: timing, the walk over the blocks,
-//! row effects, soft scroll, two desks on one memory, the bus report, text for mail and the draw program, with a generator of
-//! test cases.
+//! row effects, soft scroll, two desks on one memory, mending, the bus report, text for mail and the draw program, with a
+//! generator of test cases.
 
 pub mod bus;
 pub mod desks;
@@ -8,6 +8,8 @@ pub mod generate;
 pub mod host;
 pub mod library;
 pub mod mail;
+pub mod mend;
+pub mod mended;
 pub mod plain;
 pub mod rules;
 pub mod script;
@@ -23,6 +25,8 @@ mod desks_tests;
 mod host_tests;
 #[cfg(test)]
 mod mail_tests;
+#[cfg(test)]
+mod mend_tests;
 #[cfg(test)]
 mod scroll_tests;
 #[cfg(test)]

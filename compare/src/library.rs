@@ -111,6 +111,15 @@ extern "C" {
         address: u32,
         word: u16,
     ) -> u8;
+    fn thagaduvin_mend(
+        settings: *mut u32,
+        settings_count: usize,
+        memory: *mut u16,
+        memory_count: usize,
+        latch: u16,
+        answer: *mut u32,
+        answer_count: usize,
+    ) -> u8;
     fn thagaduvin_bus(
         burst: u16,
         words: u32,
@@ -329,6 +338,21 @@ pub fn write_word(memory: &mut [u16], spans: &Spans, address: u32, word: u16) ->
             spans.other.last,
             address,
             word,
+        )
+    }
+}
+
+#[inline]
+pub fn mend(settings: &mut [u32], memory: &mut [u16], latch: u16, answer: &mut [u32]) -> u8 {
+    unsafe {
+        thagaduvin_mend(
+            settings.as_mut_ptr(),
+            settings.len(),
+            memory.as_mut_ptr(),
+            memory.len(),
+            latch,
+            answer.as_mut_ptr(),
+            answer.len(),
         )
     }
 }

@@ -17,12 +17,20 @@ pub struct Drawn {
     pub window: bool,
 }
 
+/// What a call met, refused or not.
+#[derive(Debug, Default)]
+pub struct Notes {
+    /// The addresses of the words read.
+    pub read: Vec<u32>,
+    /// Where the pointer begins that the request blames for 7, 8, 9, 10 or 13.
+    pub blame: u32,
+}
+
 struct Tape<'a> {
     settings: &'a Settings,
     memory: &'a [u16],
     row: u32,
-    /// The addresses of the words read.
-    read: &'a mut Vec<u32>,
+    notes: &'a mut Notes,
     wraps: u32,
     latch: u16,
     latched: Vec<u16>,
@@ -88,14 +96,17 @@ impl Tape<'_> {
     /// Reads the word at an address and moves the address on.
     fn read(&mut self, at: &mut At) -> Result<u16, Refusal> {
         match self.memory.get((at.address / 2) as usize) {
-            None => Err(Refusal {
-                number: 7,
-                row: self.row,
-                address: at.address,
-                from: at.from,
-            }),
+            None => {
+                self.notes.blame = at.from;
+                Err(Refusal {
+                    number: 7,
+                    row: self.row,
+                    address: at.address,
+                    from: at.from,
+                })
+            }
             Some(&word) => {
-                self.read.push(at.address);
+                self.notes.read.push(at.address);
                 let before = at.address;
                 at.address = match (self.settings.linear, at.address) {
                     (true, 0xFF_FFFE) => 0,
@@ -137,6 +148,7 @@ impl Tape<'_> {
     }
 
     fn window(&mut self, mut at: At, before: Option<Window>) -> Result<Window, Refusal> {
+        let led = at.from;
         let next_block = self.read_pointer(&mut at)?;
         let next_row = self.read_pointer(&mut at)?;
         let words = self.words(&mut at, 2)?;
@@ -157,6 +169,7 @@ impl Tape<'_> {
             || window.first_column > window.last_column
             || window.last_column > 131;
         if bad {
+            self.notes.blame = led;
             return refuse(8, self.row, 0);
         }
         Ok(window)
@@ -178,9 +191,11 @@ impl Tape<'_> {
         Ok(all)
     }
 
-    fn check_lengths(&self, segments: &[Segment]) -> Result<(), Refusal> {
+    /// The segments of a block that a pointer of a state led to.
+    fn check_lengths(&mut self, segments: &[Segment], led: Pointer) -> Result<(), Refusal> {
         for segment in segments {
             if segment.code.is_some() && segment.visible > segment.long {
+                self.notes.blame = led.from;
                 return refuse(9, self.row, 0);
             }
         }
@@ -213,6 +228,7 @@ impl Tape<'_> {
                 let place = at.address;
                 let word = self.read(at)?;
                 if word < 0x8000 {
+                    self.notes.blame = at.from;
                     return refuse(13, self.row, place);
                 }
                 self.take_latch(word);
@@ -268,17 +284,12 @@ impl Tape<'_> {
 }
 
 impl<'a> Tape<'a> {
-    fn new(
-        settings: &'a Settings,
-        memory: &'a [u16],
-        row: u32,
-        read: &'a mut Vec<u32>,
-    ) -> Tape<'a> {
+    fn new(settings: &'a Settings, memory: &'a [u16], row: u32, notes: &'a mut Notes) -> Tape<'a> {
         Tape {
             settings,
             memory,
             row,
-            read,
+            notes,
             wraps: 0,
             latch: 0,
             latched: Vec::new(),
@@ -332,17 +343,17 @@ impl Main {
     }
 }
 
-/// The first state of a frame. The addresses of the words read, also of a refused start, go to a list of no words.
+/// The first state of a frame. What it meets, also where it is refused, is noted.
 pub fn start(
     settings: &Settings,
     memory: &[u16],
     latch: u16,
-    read: &mut Vec<u32>,
+    notes: &mut Notes,
 ) -> Result<State, Refusal> {
     if !good(settings) {
         return refuse(2, 0, 0);
     }
-    let mut tape = Tape::new(settings, memory, 0, read);
+    let mut tape = Tape::new(settings, memory, 0, notes);
     let main = tape.main_block(&settings.top)?;
     let window = match tape.register(&settings.tow) {
         None => None,
@@ -407,8 +418,8 @@ pub fn shift(
     if !range.contains(&last.shift) || last.phase > 7 {
         return refuse(3, 0, 0);
     }
-    let mut read = Vec::new();
-    let mut tape = Tape::new(settings, memory, 0, &mut read);
+    let mut notes = Notes::default();
+    let mut tape = Tape::new(settings, memory, 0, &mut notes);
     let hard = tape.main_block(&settings.top)?;
     let mut given = Shifted {
         scroll: *last,
@@ -443,20 +454,20 @@ pub fn shift(
     Ok(given)
 }
 
-/// A row call's answer with a buffer and a list of the right size. The addresses of the words read, also of a refused row,
-/// go to a list of no words.
+/// A row call's answer with a buffer and a list of the right size. What it meets, also where it is refused, is
+/// noted.
 pub fn row(
     settings: &Settings,
     memory: &[u16],
     state: &State,
-    read: &mut Vec<u32>,
+    notes: &mut Notes,
 ) -> Result<Drawn, Refusal> {
     let now = &state.fields;
     let mut tape = Tape {
         latch: state.latch,
         fill_code: now.fill_code,
         fill_flag: now.fill_flag,
-        ..Tape::new(settings, memory, now.row, read)
+        ..Tape::new(settings, memory, now.row, notes)
     };
     if !good(settings) {
         return refuse(2, now.row, 0);
@@ -495,10 +506,11 @@ pub fn row(
             next.cure = u32::from(words[2] % 32);
         }
     }
-    tape.check_lengths(&back)?;
+    tape.check_lengths(&back, now.next_row)?;
     let widths: Vec<usize> = back.iter().map(|s| s.width(settings)).collect();
     let sum: usize = widths.iter().sum();
     if sum > CELLS {
+        tape.notes.blame = now.next_row.from;
         return refuse(10, now.row, 0);
     }
 
@@ -509,13 +521,14 @@ pub fn row(
         if (window.first_row..=window.last_row).contains(&now.row) {
             let first = window.first_column as usize;
             let last = window.last_column as usize;
+            let led = window.next_row;
             if let Some(mut at) = At::of(window.next_row) {
                 let link = tape.read_pointer(&mut at)?;
                 let head = tape.read(&mut at)?;
                 inner = tape.segments(&mut at, head % 16)?;
                 window.next_row = At::pointer(link);
             }
-            tape.check_lengths(&inner)?;
+            tape.check_lengths(&inner, led)?;
             let inner_sum: usize = inner.iter().map(|s| s.width(settings)).sum();
             if inner_sum > last - first + 1 {
                 return refuse(11, now.row, 0);
@@ -590,7 +603,7 @@ pub fn row(
             attributes: next.attributes,
             curs: next.curs,
             cure: next.cure,
-            words: tape.read.len() as u32,
+            words: tape.notes.read.len() as u32,
         },
         cells,
         next: State {
@@ -614,7 +627,7 @@ pub fn effect(settings: &Settings, memory: &[u16], fields: &Fields) -> (Effect, 
                 latch,
                 fields: *fields,
             },
-            &mut Vec::new(),
+            &mut Notes::default(),
         ) {
             Err(refusal) => Part::Refuse(refusal),
             Ok(drawn) => {

@@ -289,25 +289,53 @@ pub fn sheet(settings: &Settings) -> Result<Sheet, Refusal> {
 #[derive(Clone, Copy)]
 pub(crate) struct Stop {
     number: u8,
+    pub(crate) blame: Blame,
     address: u32,
-    from: u32,
+    /// Where the pointer to blame begins.
+    pub(crate) from: u32,
+}
+
+/// Whom to blame for a refusal.
+#[derive(Clone, Copy, Debug, PartialEq, Eq)]
+pub(crate) enum Blame {
+    Nobody,
+    /// A pointer: in a start that of a register, in a row one in memory.
+    Pointer,
+    /// The pointer that led to the window in hand.
+    Window,
 }
 
 impl Stop {
     pub(crate) const fn bare(number: u8) -> Stop {
         Stop {
             number,
+            blame: Blame::Nobody,
             address: 0,
             from: 0,
+        }
+    }
+
+    /// The pointer that begins at an address is to blame.
+    fn blaming(number: u8, from: u32) -> Stop {
+        Stop {
+            blame: Blame::Pointer,
+            from,
+            ..Stop::bare(number)
+        }
+    }
+
+    fn blaming_window(number: u8) -> Stop {
+        Stop {
+            blame: Blame::Window,
+            ..Stop::bare(number)
         }
     }
 
     /// The word at an address is missing.
     fn missing(linear: bool, address: u32, origin: Origin) -> Stop {
         Stop {
-            number: 7,
             address,
-            from: origin.address(linear),
+            ..Stop::blaming(7, origin.address(linear))
         }
     }
 
@@ -316,7 +344,8 @@ impl Stop {
             number: self.number,
             row,
             address: self.address,
-            from: self.from,
+            // Told of a missing word, and of nothing else.
+            from: if self.number == 7 { self.from } else { 0 },
         }
     }
 }
@@ -514,7 +543,7 @@ fn window_block(
     let late = before.is_none_or(|window| first_row > window.last_row);
     if first_row > last_row || !late || first_column > last_column || last_column as usize >= CELLS
     {
-        return Err(Stop::bare(8));
+        return Err(Stop::blaming(8, block.from));
     }
     Ok(Window {
         first_row,
@@ -540,7 +569,12 @@ pub(crate) fn main_block(linear: bool, memory: &[u16], top: [u16; 2]) -> Result<
     if top == 0 {
         return Err(Stop::bare(6));
     }
-    let words: [u16; 7] = Reader::open(memory, linear, top, Origin::REGISTER).block()?;
+    let words: [u16; 7] = Reader::open(memory, linear, top, Origin::REGISTER)
+        .block()
+        .map_err(|stop| Stop {
+            blame: Blame::Nobody,
+            ..stop
+        })?;
     if words[4] & SCROLL != 0 && words[4] & SCROLL_WINDOW != 0 {
         return Err(Stop::bare(14));
     }
@@ -754,9 +788,9 @@ impl<'a> Segments<'a> {
             })
     }
 
-    /// The sum of the widths, or refusal 9.
+    /// The sum of the widths, or refusal 9. The pointer that led to the block begins at an address.
     #[inline]
-    fn sum(&self) -> Result<usize, Stop> {
+    fn sum(&self, from: u32) -> Result<usize, Stop> {
         let mut sum = 0;
         let mut short = false;
         for segment in self.iter() {
@@ -764,7 +798,7 @@ impl<'a> Segments<'a> {
             sum += usize::from(segment.width);
         }
         if short {
-            return Err(Stop::bare(9));
+            return Err(Stop::blaming(9, from));
         }
         Ok(sum)
     }
@@ -869,8 +903,9 @@ fn prepare<'a>(
             next.cure = u32::from(cursor & 31);
             trail.run(redefinition, 3);
         }
-        if plan.back.sum()? > CELLS {
-            return Err(Stop::bare(10));
+        let from = fields.next_row.from;
+        if plan.back.sum(from)? > CELLS {
+            return Err(Stop::blaming(10, from));
         }
     }
 
@@ -885,14 +920,15 @@ fn prepare<'a>(
                 let segments = Origin::inside(block, 3);
                 plan.over
                     .read(&mut reader, head & 15, segments, spare_over)?;
+                let from = window.next_row.from;
                 window.next_row = Pointer::inside(linear, [link0, link1], block, 0);
                 trail.run(block, reader.count());
-                if plan.over.sum()? > end - first {
-                    return Err(Stop::bare(11));
+                if plan.over.sum(from)? > end - first {
+                    return Err(Stop::blaming_window(11));
                 }
             }
             if !plan.back.boundary(first) || !plan.back.boundary(end) {
-                return Err(Stop::bare(12));
+                return Err(Stop::blaming_window(12));
             }
             plan.columns = Some((first, end));
             plan.source = WINDOW | window.number << 24;
@@ -938,7 +974,7 @@ impl List {
         if word & LATCHED == 0 {
             return Err(Stop {
                 address,
-                ..Stop::bare(13)
+                ..Stop::blaming(13, self.origin.address(linear))
             });
         }
         self.next = Some(step(linear, address));

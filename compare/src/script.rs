@@ -1,5 +1,6 @@
-//! The draw program: reads a script and gives its whole output.
+//! The draw program and the mending program: each reads a script and gives its whole output.
 
+use crate::mend::mend;
 use crate::rules::{self, Edition, Interlace, Refusal, Settings, CELLS};
 use crate::trail::PLACES;
 use std::io::Write;
@@ -114,26 +115,56 @@ fn set_switches(settings: &mut Settings, switches: u8) -> bool {
 
 /// The whole output of the draw program for a script.
 pub fn run(input: &[u8]) -> Vec<u8> {
+    output(input, |_, _| {})
+}
+
+/// The whole output of the mending program for a script: a line for each pointer that is set to 0, then the draw program's
+/// output for the mended list.
+pub fn mended(input: &[u8]) -> Vec<u8> {
+    output(input, |script, out| {
+        // A refusal that is given as it is, is the draw program's.
+        while let Ok(Some(change)) = mend(&mut script.settings, &mut script.memory, 0) {
+            let [first, second] = change.words;
+            line(
+                out,
+                format_args!(
+                    "{:06X} {first:04X} {second:04X} {}",
+                    change.address(),
+                    change.refusal.number
+                ),
+            );
+        }
+    })
+}
+
+/// The output for a script, with what is done before it is drawn.
+fn output(input: &[u8], before: impl FnOnce(&mut Script, &mut Vec<u8>)) -> Vec<u8> {
     let mut out = Vec::new();
     match parse(input) {
         Err(offset) => line(&mut out, format_args!("refused script at {offset}")),
-        Ok(script) => {
-            if let Err(refusal) = draw(&script.settings, &script.memory, &mut out) {
-                let Refusal {
-                    number,
-                    row,
-                    address,
-                    from,
-                } = refusal;
-                let told = format!("refused {number} row {row} at {address:06X}");
-                match number {
-                    7 => line(&mut out, format_args!("{told} from {from:06X}")),
-                    _ => line(&mut out, format_args!("{told}")),
-                }
-            }
+        Ok(mut script) => {
+            before(&mut script, &mut out);
+            draw_to(&script, &mut out);
         }
     }
     out
+}
+
+/// The rows of a script's frame, then its end or its refusal.
+fn draw_to(script: &Script, out: &mut Vec<u8>) {
+    if let Err(refusal) = draw(&script.settings, &script.memory, out) {
+        let Refusal {
+            number,
+            row,
+            address,
+            from,
+        } = refusal;
+        let told = format!("refused {number} row {row} at {address:06X}");
+        match number {
+            7 => line(out, format_args!("{told} from {from:06X}")),
+            _ => line(out, format_args!("{told}")),
+        }
+    }
 }
 
 fn line(out: &mut Vec<u8>, text: std::fmt::Arguments) {

@@ -1,7 +1,7 @@
 //! The marked examples, sheet S, the misreadings, and random comparisons.
 
 use crate::generate::{self, Case, Rng, Shape};
-use crate::plain;
+use crate::plain::{self, Notes};
 use crate::rules::{
     self, effect, invokes, pointer, sheet, step, Edition, Effect, Field, Fields, Interlace, Part,
     Pointer, Refusal, Row, Settings, Sheet, Start, State, Window, CELLS,
@@ -1153,13 +1153,13 @@ impl Lent {
 /// Runs a case's calls, each held against the plain form, and tallies refusals.
 fn compare_case(case: &Case, lent: &mut Lent, tally: &mut Tally) {
     let (settings, memory) = (&case.settings, &case.memory[..]);
-    let mut read = Vec::new();
-    let by_plain = plain::start(settings, memory, 0, &mut read);
-    let words = read.len() as u32;
+    let mut notes = Notes::default();
+    let by_plain = plain::start(settings, memory, 0, &mut notes);
+    let words = notes.read.len() as u32;
     let by_plain = by_plain.map(|state| Start { state, words });
     let got = rules::start(settings, memory, 0, &mut lent.list[..PLACES]);
     assert_eq!(got, by_plain);
-    assert!(lent.holds(if got.is_ok() { &read } else { &[] }));
+    assert!(lent.holds(if got.is_ok() { &notes.read } else { &[] }));
     if let Err(refusal) = by_plain {
         if case.state.is_none() {
             tally.calls[usize::from(refusal.number)] += 1;
@@ -1193,11 +1193,11 @@ fn compare_case(case: &Case, lent: &mut Lent, tally: &mut Tally) {
             assert_eq!(got.unwrap_err().number, 25);
             continue;
         }
-        let mut read = Vec::new();
-        match plain::row(settings, memory, &old_state, &mut read) {
+        let mut notes = Notes::default();
+        match plain::row(settings, memory, &old_state, &mut notes) {
             Err(refusal) => assert_eq!(got, Err(refusal)),
             Ok(drawn) => {
-                assert!(lent.holds(&read));
+                assert!(lent.holds(&notes.read));
                 assert_eq!(got, Ok(drawn.answer));
                 assert_eq!(state, drawn.next);
                 assert_eq!(buffer, drawn.cells);
@@ -1217,7 +1217,7 @@ fn compare_case(case: &Case, lent: &mut Lent, tally: &mut Tally) {
                 let list = &mut lent.list[..PLACES];
                 let answer = rules::row(settings, memory, &mut alone, &mut cells, list);
                 assert_eq!(answer, got);
-                assert!(lent.holds(if got.is_ok() { &read } else { &[] }));
+                assert!(lent.holds(if got.is_ok() { &notes.read } else { &[] }));
                 if got.is_ok() {
                     assert_eq!(alone, state);
                     assert_eq!(cells[..], buffer[..]);

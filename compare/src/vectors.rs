@@ -17,29 +17,29 @@ impl Vector {
 }
 
 /// Code address, list address, length and visible of a segment.
-type Segment = (u32, u32, u16, u16);
+pub(crate) type Segment = (u32, u32, u16, u16);
 
 /// A script under construction: a frame of two rows of one line and eight columns, linear,
 /// flag 8080, main block at 0010, fill code 20.
-struct Sketch {
-    segmented: bool,
-    display_hidden: bool,
+pub(crate) struct Sketch {
+    pub(crate) segmented: bool,
+    pub(crate) display_hidden: bool,
     interlace: u8,
     cursor: Option<(u16, u16)>,
-    fill_flag: bool,
+    pub(crate) fill_flag: bool,
     scan_lines: u16,
-    lines: u16,
-    columns: u16,
+    pub(crate) lines: u16,
+    pub(crate) columns: u16,
     flag: u16,
-    top: [u16; 2],
-    tow: u32,
+    pub(crate) top: [u16; 2],
+    pub(crate) tow: u32,
     /// Registers set after all others.
     registers: Vec<(u8, u16)>,
     words: Vec<(u32, u16)>,
 }
 
 impl Sketch {
-    fn new() -> Sketch {
+    pub(crate) fn new() -> Sketch {
         Sketch {
             segmented: false,
             display_hidden: false,
@@ -65,7 +65,7 @@ impl Sketch {
         ]
     }
 
-    fn write(&mut self, address: u32, words: &[u16]) -> &mut Sketch {
+    pub(crate) fn write(&mut self, address: u32, words: &[u16]) -> &mut Sketch {
         for (n, &word) in words.iter().enumerate() {
             self.words.push((address + 2 * n as u32, word));
         }
@@ -73,7 +73,7 @@ impl Sketch {
     }
 
     /// Codes from an address on, two to a word.
-    fn text(&mut self, address: u32, codes: &[u8]) -> &mut Sketch {
+    pub(crate) fn text(&mut self, address: u32, codes: &[u8]) -> &mut Sketch {
         for (n, pair) in codes.chunks(2).enumerate() {
             let low = pair.get(1).copied().unwrap_or(0);
             self.write(
@@ -84,11 +84,11 @@ impl Sketch {
         self
     }
 
-    fn row(&mut self, address: u32, link: u32, segments: &[Segment]) -> &mut Sketch {
+    pub(crate) fn row(&mut self, address: u32, link: u32, segments: &[Segment]) -> &mut Sketch {
         self.block(address, link, None, segments)
     }
 
-    fn block(
+    pub(crate) fn block(
         &mut self,
         address: u32,
         link: u32,
@@ -109,7 +109,7 @@ impl Sketch {
         self.write(address, &words)
     }
 
-    fn window(
+    pub(crate) fn window(
         &mut self,
         address: u32,
         link: u32,
@@ -124,7 +124,7 @@ impl Sketch {
         self.write(address, &words)
     }
 
-    fn register(&mut self, register: u8, value: u16) -> &mut Sketch {
+    pub(crate) fn register(&mut self, register: u8, value: u16) -> &mut Sketch {
         self.registers.push((register, value));
         self
     }
@@ -173,7 +173,7 @@ impl Sketch {
         bytes
     }
 
-    fn script(&self) -> Vec<u8> {
+    pub(crate) fn script(&self) -> Vec<u8> {
         let mut bytes = self.open();
         bytes.push(0);
         bytes
@@ -1127,5 +1127,5 @@ fn numbers(set: &mut Set) {
 
 impl Sketch {
     /// Ends a chain of calls.
-    fn done(&mut self) {}
+    pub(crate) fn done(&mut self) {}
 }

@@ -1,20 +1,22 @@
-//! Measures rows, with their lists of addresses, and effects: the proved library through its host calls, this implementation
+//! Measures rows, with their lists of addresses, effects, and mending: the proved library through its host calls, this implementation
 //! through the same slices, and this implementation called directly. The three take turns in
 //! short rounds, so that whatever else the machine does falls on all alike.
 //!
 //! Usage: measure [PART OF A NAME]
 
 use compare::host::{
-    self, EFFECT, PLACES, ROW_ANSWER, ROW_WORDS, SETTINGS as SETTINGS_COUNT, STATE,
+    self, EFFECT, MEND_ANSWER, MEND_CHANGED, PLACES, ROW_ANSWER, ROW_WORDS,
+    SETTINGS as SETTINGS_COUNT, STATE,
 };
-use compare::library;
 use compare::rules::{self, Settings, State, CELLS};
 use compare::script::UNSET;
+use compare::{library, mended, script};
 use std::hint::black_box;
 use std::time::Instant;
 
 const ROUNDS: usize = 2000;
 const CALLS: u32 = 200;
+const MENDINGS: usize = 20;
 
 const SETTINGS: Settings = Settings {
     linear: true,
@@ -300,6 +302,54 @@ fn measure(name: &str, frame: (Settings, Vec<u16>), kinds: [fn(&mut Bench) -> f6
     println!("| {:.1} | {:.1} |", direct[0], direct[1]);
 }
 
+/// Mends a frame step by step to its end. Gives the milliseconds, and the pointers changed.
+fn mending(
+    numbers: &[u32],
+    memory: &[u16],
+    call: impl Fn(&mut [u32], &mut [u16], u16, &mut [u32]) -> u8,
+) -> (f64, u32) {
+    let (mut settings, mut memory) = (numbers.to_vec(), memory.to_vec());
+    let mut answer = [1; MEND_ANSWER];
+    let mut changes = 0;
+    let begun = Instant::now();
+    loop {
+        let status = call(&mut settings, &mut memory, 0, black_box(&mut answer));
+        assert_eq!(status, 0);
+        if answer[MEND_CHANGED] == 0 {
+            return (begun.elapsed().as_nanos() as f64 / 1e6, changes);
+        }
+        changes += 1;
+    }
+}
+
+/// Measures the mending of a screen with several hundred damages: that each one is drawn up to, and the last time whole.
+fn mendings(name: &str, rows: u16) {
+    if !wanted(name) {
+        return;
+    }
+    let bytes = mended::many(rows);
+    let said = script::parse(&bytes).expect("a good script");
+    let numbers = host::settings_numbers(&said.settings);
+    let mut times = [const { Vec::new() }; 2];
+    let mut changes = [0; 2];
+    for _ in 0..MENDINGS {
+        let [library, host] = [
+            mending(&numbers, &said.memory, library::mend),
+            mending(&numbers, &said.memory, host::mend),
+        ];
+        times[0].push(library.0);
+        times[1].push(host.0);
+        changes = [library.1, host.1];
+    }
+    assert_eq!(changes[0], changes[1]);
+    let [[library, _], [host, _]] = times.map(|times| summary(&times));
+    println!(
+        "\n{name}: {} changes, library {library:.2} ms, Rust {host:.2} ms, ratio {:.2} (best of {MENDINGS} rounds)",
+        changes[0],
+        host / library
+    );
+}
+
 /// Whether a measurement is asked for: all are without an argument.
 fn wanted(name: &str) -> bool {
     std::env::args()
@@ -374,4 +424,5 @@ fn main() {
         "effect, fill only: block without segments",
         (SETTINGS, board(0x20, &[])),
     );
+    mendings("mending, 20 rows", 20);
 }

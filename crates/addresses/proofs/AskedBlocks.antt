@@ -9,7 +9,7 @@ use lib.ListN.{length, getD}
 use lib.Dec.{ltb, leb, lit<}
 use Rattle.memory.specs.Word.{if_then_else_, bit, at}
 use Rattle.memory.specs.declared.Pointer.{Pointer}
-use Rattle.memory.specs.Reading.{Reading, done, _>>=_, check}
+use Rattle.memory.specs.Reading.{Reading, done, _>>=_, checkOf}
 use Rattle.memory.specs.Address.{nothing, pointer, null, nextWord, ahead, onward, further, words}
 use Rattle.memory.proofs.RunLaws.{ahead-add}
 use Rattle.settings.specs.declared.Settings.{Settings}
@@ -32,7 +32,7 @@ use Rattle.plan.specs.Plan.{Plan, plan}
 use Rattle.start.specs.Top.{registered, topBlock, enabled, ofWindow}
 use Rattle.start.specs.Start.{windowStart, startFrom}
 use Rattle.addresses.specs.Addresses.{wordIn, inTurn, pointed, headWord, blockWords, pointerIn, redefinitionOf, dueOf, rowsOf, overRows, planAddresses, startAddresses}
-use Rattle.addresses.proofs.Trace.{Trace, dones, asks, parts, joined, alone, trace-done, trace-check}
+use Rattle.addresses.proofs.Trace.{Trace, dones, asks, parts, joined, alone, trace-done, trace-check, trace-check-of}
 
 -- words one after the other: their addresses, and each as memory has it
 pub record Read (m : List ℕ) (l : Bool) (k a : ℕ) (xs ws : List ℕ) : Type 0 where
@@ -86,13 +86,13 @@ module _ (m : List ℕ) (l : Bool) where
       w₁ ws = windowOf l number (p .address) ws
 
       by : (b : Bool) {xs : List ℕ} {w : WindowInHand}
-          → Trace m (if b then done Absent else (words l 6 p >>= λ ws. check 8 (inOrder (w₁ ws .block) && leb least (w₁ ws .block .top)) >>= λ _. done (Present (w₁ ws)))) xs w
+          → Trace m (if b then done Absent else (words l 6 p >>= λ ws. checkOf 8 p (inOrder (w₁ ws .block) && leb least (w₁ ws .block .top)) >>= λ _. done (Present (w₁ ws)))) xs w
           → WindowAsked (if b then [] else inTurn l 6 (p .address)) (pointerIn l m 2 (p .address)) xs w
       by true dones = record { addresses = refl; block = λ x e. absent x e }
       by false t =
           let r = parts (words l 6 p) _ t in
           let f = words-asked m l 6 p (r .one) in
-          let ended = trace-done (trace-check 8 (inOrder (w₁ (r .result) .block) && leb least (w₁ (r .result) .block .top)) (λ _. done (Present (w₁ (r .result)))) (r .two) .1) in
+          let ended = trace-done (trace-check-of 8 p (inOrder (w₁ (r .result) .block) && leb least (w₁ (r .result) .block .top)) (λ _. done (Present (w₁ (r .result)))) (r .two) .1) in
           record {
             addresses = alone (r .sum) (f .addresses) (ended .0);
             block = λ x e.
@@ -216,7 +216,7 @@ module _ (m : List ℕ) (σ : Settings) where
   window-row-asked x t =
       let l = σ .linear in
       let r = parts (blockAt l false (x .rows)) _ t in
-      let ended = trace-done (trace-check 11 (leb (total (σ .hidden) (r .result .segments)) (x .block .right + 1 - x .block .left)) _ (trace-check 9 (allFit (r .result .segments)) _ (r .two) .1) .1) in
+      let ended = trace-done (trace-check 11 (leb (total (σ .hidden) (r .result .segments)) (x .block .right + 1 - x .block .left)) _ (trace-check-of 9 (x .rows) (allFit (r .result .segments)) _ (r .two) .1) .1) in
       alone (r .sum) (block-asked m l false (x .rows) (r .one) .addresses) (ended .0)
       ∙ ap (λ (o : Overlaid). pointed l (blockWords false (headWord l m (rowsFor (Present x) (o .overlay)))) (rowsFor (Present x) (o .overlay))) (ended .1)
 
@@ -258,7 +258,7 @@ module _ (m : List ℕ) (σ : Settings) where
       let s = parts (backgroundRow σ f) _ (r .two) in
       let u = parts (backgroundBlock l (f .next) (f .format)) _ (s .one) in
       let back = background-asked m l (f .next) (f .format) (u .one) in
-      let checked = trace-done (trace-check 10 (leb (total (σ .hidden) (u .result .block .segments)) 132) _ (trace-check 9 (allFit (u .result .block .segments)) _ (u .two) .1) .1) in
+      let checked = trace-done (trace-check-of 10 (f .next) (leb (total (σ .hidden) (u .result .block .segments)) 132) _ (trace-check-of 9 (f .next) (allFit (u .result .block .segments)) _ (u .two) .1) .1) in
       let v = parts (overlaid σ (f .row) (r .result)) _ (s .two) in
       let ended = trace-done (trace-check 12 (edgesFit (σ .hidden) (v .result .overlay) (s .result .block .segments)) _ (v .two) .1) in
       let over = overlaid-asked (f .row) (r .result) (v .one) in

@@ -8,7 +8,8 @@ use lib.ListN.{length, getD}
 use lib.Dec.{ltb}
 use Rattle.memory.specs.Word.{if_then_else_}
 use Rattle.memory.specs.declared.Fault.{Fault}
-use Rattle.memory.specs.Reading.{Ask, Reading, done, refuse, ask, absent, _>>=_, check, Outcome, given, refused, runFrom, asked}
+use Rattle.memory.specs.declared.Pointer.{Pointer}
+use Rattle.memory.specs.Reading.{Ask, Reading, done, refuse, ask, absent, _>>=_, check, checkOf, Outcome, given, refused, runFrom, asked}
 use Rattle.memory.proofs.ReadBounds.{Words}
 use Rattle.memory.proofs.Gives.{Gives}
 use Rattle.memory.proofs.Gives as Gives
@@ -85,8 +86,12 @@ trace-same dones dones = (refl, refl)
 trace-same (asks {q} t) (asks u) = let r = trace-same t u in (ap (_∷_ (q .address)) (r .0), r .1)
 
 -- a check asks for nothing
+pub trace-check-of : {A : Type 0} {m : List ℕ} (n : ℕ) (p : Pointer) (t : Bool) (k : Unit {0} → Reading A) {xs : List ℕ} {a : A}
+    → Trace m (checkOf n p t >>= k) xs a → (t ≡ true) × Trace m (k tt) xs a
+unfolding _>>=_
+trace-check-of n p true k t = (refl, t)
+trace-check-of n p false k t = absurd (no-refusal t)
+
 pub trace-check : {A : Type 0} {m : List ℕ} (n : ℕ) (t : Bool) (k : Unit {0} → Reading A) {xs : List ℕ} {a : A} → Trace m (check n t >>= k) xs a
     → (t ≡ true) × Trace m (k tt) xs a
-unfolding _>>=_
-trace-check n true k t = (refl, t)
-trace-check n false k t = absurd (no-refusal t)
+trace-check n t k u = trace-check-of n _ t k u

@@ -5,7 +5,7 @@ use native.Mathlib.Omega.{arith}
 use lib.Dec.{leb}
 use borrow.Author.Tests.{leb-true}
 use Rattle.memory.specs.declared.Pointer.{Pointer}
-use Rattle.memory.proofs.ReadBounds.{Reads, dones, bind, check-reads}
+use Rattle.memory.proofs.ReadBounds.{Reads, dones, bind, check-of-reads}
 use Rattle.settings.specs.declared.Settings.{Settings}
 use Rattle.blocks.specs.declared.RowFormat.{RowFormat}
 use Rattle.blocks.proofs.BlockBounds.{Few, row-block-reads, redefined-reads}
@@ -30,6 +30,6 @@ pub background-reads : (σ : Settings) (f : Fields) → Reads (Narrow (σ .hidde
 unfolding backgroundRow
 background-reads σ f =
     bind {n = 83} {k = 0} (omega arith) (block-reads (σ .linear) (f .next) (f .format)) λ g h.
-    bind {n = 0} {k = 0} (omega arith) (check-reads 9 (allFit (g .block .segments))) λ _ _.
-    bind {n = 0} {k = 0} (omega arith) (check-reads 10 (leb (total (σ .hidden) (g .block .segments)) 132)) λ _ h₁₀.
+    bind {n = 0} {k = 0} (omega arith) (check-of-reads 9 (f .next) (allFit (g .block .segments))) λ _ _.
+    bind {n = 0} {k = 0} (omega arith) (check-of-reads 10 (f .next) (leb (total (σ .hidden) (g .block .segments)) 132)) λ _ h₁₀.
     dones (record { few = h .0; narrow = leb-true (total (σ .hidden) (g .block .segments)) 132 h₁₀; tall = h .1 })

@@ -44,6 +44,6 @@ module _ (m : List ℕ) (σ : Settings) (f : Fields) where
   row-refused e = bind-refused 0 m (backgroundBlock (σ .linear) (f .next) (f .format)) _ e
 
   pub row-checks : {n : ℕ} {g : BackgroundRow} → run m (backgroundBlock (σ .linear) (f .next) (f .format)) ≡ given n g
-      → run m (backgroundRow σ f) ≡ runFrom n m (judged (σ .hidden) (g .block .segments) 10 132 g)
+      → run m (backgroundRow σ f) ≡ runFrom n m (judged (σ .hidden) (g .block .segments) (f .next) 10 (f .next) 132 g)
   unfolding backgroundRow
   row-checks e = bind-given 0 m (backgroundBlock (σ .linear) (f .next) (f .format)) _ e

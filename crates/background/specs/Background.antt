@@ -2,7 +2,7 @@
 use mathlib.Core.Bool.{Bool}
 use lib.Dec.{leb}
 use Rattle.memory.specs.declared.Pointer.{Pointer}
-use Rattle.memory.specs.Reading.{Reading, done, _>>=_, _>>_, check}
+use Rattle.memory.specs.Reading.{Reading, done, _>>=_, _>>_, checkOf}
 use Rattle.settings.specs.declared.Settings.{Settings}
 use Rattle.blocks.specs.declared.RowFormat.{RowFormat}
 use Rattle.blocks.specs.RowBlock.{RowBlock, rowBlockAt, redefined}
@@ -25,6 +25,6 @@ backgroundBlock linear p format = do
 unfoldable pub backgroundRow : Settings → Fields → Reading BackgroundRow
 backgroundRow σ f = do
   g ← backgroundBlock (σ .linear) (f .next) (f .format)
-  check 9 (allFit (g .block .segments))
-  check 10 (leb (total (σ .hidden) (g .block .segments)) 132)
+  checkOf 9 (f .next) (allFit (g .block .segments))
+  checkOf 10 (f .next) (leb (total (σ .hidden) (g .block .segments)) 132)
   done g

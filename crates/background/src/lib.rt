@@ -70,10 +70,10 @@ pub fn background_row(
             let count = block.count;
             let m = layout::measure_segments(settings.linear, settings.hidden, back, count);
             if !m.fit {
-                return BackgroundRead::Refused(memory::fault_of(9));
+                return BackgroundRead::Refused(memory::blame(9, next));
             }
             if 132 < m.width {
-                return BackgroundRead::Refused(memory::fault_of(10));
+                return BackgroundRead::Refused(memory::blame(10, next));
             }
             BackgroundRead::Read { block, format }
         }

@@ -25,9 +25,9 @@ codeCount g = if null (g .codes) then 0 else g .length
 unfoldable pub filled : FillMode → ℕ → Drawing → Drawing
 filled fill end d = put (end - d .pen .column) (cell Fill (d .pen .latch) (fill .code)) d
 
--- Refusal 13, "fill word without bit 15", has the address of the word; "other refusals hold 0 there" (02), where 7 tells its pointer
+-- Refusal 13, "fill word without bit 15", has the address of the word; the attribute pointer in use is to blame (02, mending)
 abbrev pub unlatched : Pointer → Fault
-unlatched p = record { number = 13; address = p .address; from = 0 }
+unlatched p = record { number = 13; address = p .address; from = p .from }
 
 module _ (σ : CodeSettings) (fill : FillMode) where
   -- a run that takes a word, "which must have bit 15 and becomes the latch"

@@ -71,7 +71,7 @@ fn fill_by_word(
                 Drawn::Refused {
                     number: 13,
                     address: next.address,
-                    from: 0,
+                    from: next.from as u64,
                 }
             }
         }

@@ -7,7 +7,8 @@ use Prim.Native.Nat.{ℕ}
 use native.Mathlib.Omega.{arith}
 use lib.Dec.{leb, ltb}
 use Rattle.memory.specs.declared.Fault.{Fault}
-use Rattle.memory.specs.Reading.{Reading, done, _>>=_, check, Outcome, given, refused, runFrom, run}
+use Rattle.memory.specs.declared.Pointer.{Pointer}
+use Rattle.memory.specs.Reading.{Reading, done, _>>=_, check, checkOf, nobody, Outcome, given, refused, runFrom, run}
 use Rattle.memory.specs.Address.{null}
 use Rattle.memory.proofs.Laws.{bind-given, bind-refused}
 use Rattle.settings.specs.declared.Settings.{Settings}
@@ -30,7 +31,7 @@ use Rattle.insertion.specs.Followed.{redefinitionOf}
 use Rattle.plan.specs.Plan as Rules
 use Rattle.windows.specs.declared.WindowInHand.the-variants.{Absent}
 use Rattle.insertion.proofs.Near.{at}
-use Rattle.insertion.proofs.Rows.{plainFields, Passes}
+use Rattle.insertion.proofs.Rows.{plainFields, widthsOf, Passes}
 
 -- a refusal is no result
 pub never : {A B : Type 0} {x : Fault} {n : ℕ} {a : A} → _≡_ {A = Outcome A} (refused x) (given n a) → B
@@ -48,11 +49,16 @@ came-by {A} n m p k {j} {b} e = by (runFrom n m p) refl
     by (given i a) h = came h (sym (bind-given n m p k h) ∙ e)
     by (refused x) h = never (sym (bind-refused n m p k h) ∙ e)
 
+-- a check before what a reading came to has passed
+passed-of : {A : Type 0} (n : ℕ) (m : List ℕ) (i : ℕ) (p : Pointer) (b : Bool) (k : Unit {0} → Reading A) {j : ℕ} {a : A}
+    → runFrom n m (checkOf i p b >>= k) ≡ given j a → (b ≡ true) × (runFrom n m (k tt) ≡ given j a)
+unfolding _>>=_ runFrom
+passed-of n m i p true k e = (refl, e)
+passed-of n m i p false k e = never e
+
 pub passed : {A : Type 0} (n : ℕ) (m : List ℕ) (i : ℕ) (b : Bool) (k : Unit {0} → Reading A) {j : ℕ} {a : A}
     → runFrom n m (check i b >>= k) ≡ given j a → (b ≡ true) × (runFrom n m (k tt) ≡ given j a)
-unfolding _>>=_ runFrom
-passed n m i true k e = (refl, e)
-passed n m i false k e = never e
+passed n m i b k e = passed-of n m i nobody b k e
 
 module _ (σ : Settings) (m : List ℕ) where
   -- its checks have passed, and its format is its plan's
@@ -104,12 +110,10 @@ module _ (σ : Settings) (m : List ℕ) where
     unfolding backgroundRow runFrom
     ground-format {i} {g} e = by (came-by 0 m (backgroundBlock (σ .linear) (at a x) t) _ e)
       where
-        by : Came 0 m (backgroundBlock (σ .linear) (at a x) t)
-            (λ g. check 9 (allFit (g .block .segments)) >>= λ _. check 10 (leb (total (σ .hidden) (g .block .segments)) 132) >>= λ _. done g) (given i g)
-            → g .format ≡ t
+        by : Came 0 m (backgroundBlock (σ .linear) (at a x) t) (widthsOf σ (at a x)) (given i g) → g .format ≡ t
         by (came {i = k} {a = h} e last) =
-            let nine = passed k m 9 (allFit (h .block .segments)) _ last in
-            let ten = passed k m 10 (leb (total (σ .hidden) (h .block .segments)) 132) (λ _. done h) (nine .1) in
+            let nine = passed-of k m 9 (at a x) (allFit (h .block .segments)) _ last in
+            let ten = passed-of k m 10 (at a x) (leb (total (σ .hidden) (h .block .segments)) 132) (λ _. done h) (nine .1) in
             let same : h ≡ g = cc (ten .1) in
             ap (λ (g : BackgroundRow). g .format) (sym same) ∙ block-format e
 

@@ -9,7 +9,7 @@ use lib.Dec.{ltb}
 use Rattle.memory.specs.Word.{if_then_else_}
 use Rattle.memory.specs.declared.Fault.{Fault}
 use Rattle.memory.specs.declared.Pointer.{Pointer}
-use Rattle.memory.specs.Reading.{Ask, Reading, done, refuse, ask, _>>=_, Outcome, given, refused, runFrom, run, asked}
+use Rattle.memory.specs.Reading.{Ask, Reading, done, refuse, ask, _>>=_, checkOf, Outcome, given, refused, runFrom, run, asked}
 use Rattle.memory.specs.Address.{nextWord, words}
 use Rattle.memory.proofs.Agree.{All, also, SameWord}
 
@@ -32,6 +32,11 @@ module _ {A C D : Type 0} {S : C → D → Type 0} {h : A → Reading C} {k : A 
   bind-same (done a) f = f a
   bind-same (refuse x) f = refuses
   bind-same (ask q g) f = asks refl (λ w. bind-same (g w) f)
+
+-- one check, whichever pointer it blames
+pub check-near : (n : ℕ) (p q : Pointer) (b : Bool) → Near (λ _ _. Unit {0}) (checkOf n p b) (checkOf n q b)
+check-near n p q true = dones tt
+check-near n p q false = refuses
 
 -- what they come to
 pub data Outcomes {A B : Type 0} (R : A → B → Type 0) : Outcome A → Outcome B → Type 0 where

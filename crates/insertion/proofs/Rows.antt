@@ -5,7 +5,7 @@ use mathlib.Core.Bool.{Bool, true, false}
 use Prim.Native.Nat.{ℕ}
 use lib.Dec.{eqb, ltb, leb}
 use Rattle.memory.specs.declared.Pointer.{Pointer}
-use Rattle.memory.specs.Reading.{Reading, done, _>>=_, check}
+use Rattle.memory.specs.Reading.{Reading, done, _>>=_, check, checkOf}
 use Rattle.memory.specs.Address.{nothing, pointer, nextWord}
 use Rattle.settings.specs.declared.Settings.{Settings}
 use Rattle.settings.specs.Good.{good, checkSettings}
@@ -24,7 +24,7 @@ use Rattle.codes.specs.Codes.{Drawing, blank}
 use Rattle.cells.specs.Cells.{rowCells}
 use Rattle.plan.specs.Plan.{Plan, linesTaken, nextFields, planned, fromBlocks, plan}
 use Rattle.row.specs.Row.{codeSettings, Row, fromPlan, row}
-use Rattle.insertion.proofs.Near.{Near, dones, bind, bind-same, weaken, Opens, open-bind, open-near, at}
+use Rattle.insertion.proofs.Near.{Near, dones, bind, bind-same, check-near, weaken, Opens, open-bind, open-near, at}
 use Rattle.insertion.proofs.Blocks.{BlockAlike, blocks, block-opens, block-null}
 
 -- fields without a window, the next row block at the address a
@@ -60,8 +60,8 @@ module _ (σ : Settings) where
   abbrev formatOf : RowFormat → RowBlock → Reading BackgroundRow
   formatOf t b = redefined (σ .linear) (b .redefinition) t >>= λ u. done (record { block = b; format = u })
 
-  abbrev widthsOf : BackgroundRow → Reading BackgroundRow
-  widthsOf g = check 9 (allFit (g .block .segments)) >>= λ _. check 10 (leb (total (σ .hidden) (g .block .segments)) 132) >>= λ _. done g
+  abbrev pub widthsOf : Pointer → BackgroundRow → Reading BackgroundRow
+  widthsOf p g = checkOf 9 p (allFit (g .block .segments)) >>= λ _. checkOf 10 p (leb (total (σ .hidden) (g .block .segments)) 132) >>= λ _. done g
 
   abbrev planOf : Fields → BackgroundRow → Reading Plan
   planOf f g = check 12 (edgesFit (σ .hidden) none (g .block .segments)) >>= λ _. done (planned f g (record { overlay = none; window = Absent }))
@@ -70,9 +70,10 @@ module _ (σ : Settings) {p q : Pointer} where
   formats : (t : RowFormat) (b d : RowBlock) → BlockAlike p q b d → Near (GroundAlike p q) (formatOf σ t b) (formatOf σ t d)
   formats t b d (blocks re gs) = bind-same (redefined (σ .linear) re t) λ u. dones (grounds u (blocks re gs))
 
-  widths : (g h : BackgroundRow) → GroundAlike p q g h → Near (GroundAlike p q) (widthsOf σ g) (widthsOf σ h)
-  widths g h (grounds t (blocks re gs)) =
-      bind-same (check 9 (allFit gs)) λ _. bind-same (check 10 (leb (total (σ .hidden) gs) 132)) λ _. dones (grounds t (blocks re gs))
+  widths : (u v : Pointer) (g h : BackgroundRow) → GroundAlike p q g h → Near (GroundAlike p q) (widthsOf σ u g) (widthsOf σ v h)
+  widths u v g h (grounds t (blocks re gs)) =
+      bind (check-near 9 u v (allFit gs)) λ _ _ _.
+      bind (check-near 10 u v (leb (total (σ .hidden) gs) 132)) λ _ _ _. dones (grounds t (blocks re gs))
 
   edges : (f f′ : Fields) (g h : BackgroundRow) → GroundAlike p q g h → Near (PlanAlike f f′ p q) (planOf σ f g) (planOf σ f′ h)
   edges f f′ g h (grounds t (blocks re gs)) = bind-same (check 12 (edgesFit (σ .hidden) none gs)) λ _. dones (plans t (blocks re gs))
@@ -104,15 +105,15 @@ module _ (σ : Settings) (l : ℕ) where
   unfolding dueWindow overlaid backgroundBlock backgroundRow _>>=_
   row-opens {f} {g} (like {fill} {t} {a} {x} {y}) h k e =
       rw (row-checked σ l _ h, row-checked σ l _ k)
-      (open-bind (open-bind (open-bind (open-bind (block-opens (σ .linear) a x y e) λ w₁ w₂ v₁ v₂. formats σ t) λ w₁ w₂ v₁ v₂. widths σ)
-      λ w₁ w₂ v₁ v₂. edges σ f g) λ w₁ w₂ v₁ v₂. cells σ fill l f g)
+      (open-bind (open-bind (open-bind (open-bind (block-opens (σ .linear) a x y e) λ w₁ w₂ v₁ v₂. formats σ t)
+      λ w₁ w₂ v₁ v₂. widths σ (at a x) (at a y)) λ w₁ w₂ v₁ v₂. edges σ f g) λ w₁ w₂ v₁ v₂. cells σ fill l f g)
 
   pub row-null : {f g : Fields} → Like f g → Passes σ f → Passes σ g → eqb (f .next .address) 0 ≡ true
       → Near (RowAlike f g nothing nothing) (row σ (stateOf l f)) (row σ (stateOf l g))
   unfolding dueWindow overlaid backgroundBlock backgroundRow _>>=_
   row-null {f} {g} (like {fill} {t} {a} {x} {y}) h k e =
       rw (row-checked σ l _ h, row-checked σ l _ k)
-      (bind (bind (bind (bind (block-null (σ .linear) a x y e) (formats σ t)) (widths σ)) (edges σ f g)) (cells σ fill l f g))
+      (bind (bind (bind (bind (block-null (σ .linear) a x y e) (formats σ t)) (widths σ (at a x) (at a y))) (edges σ f g)) (cells σ fill l f g))
 
   -- on words that both find alike
   pub row-near : {f g : Fields} → Like f g → Passes σ f → Passes σ g → Near (RowsAlike f g) (row σ (stateOf l f)) (row σ (stateOf l g))

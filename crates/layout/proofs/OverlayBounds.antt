@@ -5,7 +5,7 @@ use Prim.Native.Nat.{ℕ, _+_, _-_, _≤_}
 use native.Mathlib.Omega.{arith}
 use lib.Dec.{leb}
 use borrow.Author.Tests.{leb-true}
-use Rattle.memory.proofs.ReadBounds.{Reads, dones, bind, check-reads, if-reads, both}
+use Rattle.memory.proofs.ReadBounds.{Reads, dones, bind, check-reads, check-of-reads, if-reads, both}
 use Rattle.settings.specs.declared.Settings.{Settings}
 use Rattle.windows.specs.declared.Window.{Window}
 use Rattle.windows.specs.declared.WindowInHand.{WindowInHand}
@@ -48,7 +48,7 @@ overlaid-reads σ row (Present w) h =
     (λ t.
     let on = both (leb (w .block .top) row) (leb row (w .block .bottom)) t in
     bind {n = 78} {k = 0} (omega arith) (window-row-reads (σ .linear) (w .rows)) λ b hb.
-    bind {n = 0} {k = 0} (omega arith) (check-reads 9 (allFit (b .segments))) λ _ _.
+    bind {n = 0} {k = 0} (omega arith) (check-of-reads 9 (w .rows) (allFit (b .segments))) λ _ _.
     bind {n = 0} {k = 0} (omega arith) (check-reads 11 (leb (total (σ .hidden) (b .segments)) (w .block .right + 1 - w .block .left))) λ _ h₁₁.
     let l = leb-true (total (σ .hidden) (b .segments)) (w .block .right + 1 - w .block .left) h₁₁ in
     dones

@@ -4,7 +4,7 @@ use mathlib.Core.Bool.{_&&_}
 use lib.Dec.{leb}
 use Rattle.memory.specs.Word.{if_then_else_}
 use Rattle.memory.specs.declared.Pointer.{Pointer}
-use Rattle.memory.specs.Reading.{Reading, done, _>>=_, _>>_, check}
+use Rattle.memory.specs.Reading.{Reading, done, _>>=_, _>>_, check, checkOf}
 use Rattle.settings.specs.declared.Settings.{Settings}
 use Rattle.windows.specs.declared.Window.{Window}
 use Rattle.windows.specs.declared.WindowInHand.{WindowInHand}
@@ -25,7 +25,7 @@ withRows rows w = record { block = w .block; rows = rows }
 unfoldable pub windowRow : Settings → Window → Reading Overlaid
 windowRow σ w = do
   b ← windowRowAt (σ .linear) (w .rows)
-  check 9 (allFit (b .segments))
+  checkOf 9 (w .rows) (allFit (b .segments))
   check 11 (leb (total (σ .hidden) (b .segments)) (w .block .right + 1 - w .block .left))
   done (record {
     overlay = over (w .block .number) (w .block .left) (w .block .right + 1) (b .segments);

@@ -101,7 +101,7 @@ fn window_row(mem: &[u16], settings: Settings, w: Window, over: &mut [u16; 75]) 
             let count = b.count;
             let m = crate::measure_segments(settings.linear, settings.hidden, over, count);
             if !m.fit {
-                return OverlayRead::Refused(memory::fault_of(9));
+                return OverlayRead::Refused(memory::blame(9, rows));
             }
             let block = w.block;
             if columns(block) < m.width {

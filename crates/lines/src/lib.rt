@@ -120,7 +120,7 @@ fn put_cell(out: &mut [u8], at: usize, n: u32) -> usize
 }
 
 // `name`, and `count` hex digits of a number.
-fn put_hex(out: &mut [u8], at: usize, name: &[u8], count: usize, n: u32) -> usize
+pub fn put_hex(out: &mut [u8], at: usize, name: &[u8], count: usize, n: u32) -> usize
     requires { ⌜ at + length (now name) + count ≤ length (now out) ⌝ }
     ensures { λ r. ⌜ (r ≡ at + length (now (name .entry)) + count) × (take r (now (out .exit)) ≡ take at (now (out .entry)) ++ now (name .entry) ++ hex count n) ⌝ }
 {

@@ -8,7 +8,8 @@ use lib.ListN.{length, getD}
 use lib.Dec.{ltb}
 use Rattle.memory.specs.Word.{if_then_else_}
 use Rattle.memory.specs.declared.Fault.{Fault}
-use Rattle.memory.specs.Reading.{Ask, Reading, done, refuse, ask, _>>=_, check, each, Outcome, given, refused, runFrom}
+use Rattle.memory.specs.declared.Pointer.{Pointer}
+use Rattle.memory.specs.Reading.{Ask, Reading, done, refuse, ask, _>>=_, checkOf, each, Outcome, given, refused, runFrom}
 use Rattle.memory.proofs.ReadBounds.{Words, Reads, if-cases}
 use Rattle.memory.proofs.ReadBounds as Bounds
 
@@ -24,9 +25,9 @@ module _ {A B : Type 0} {P : A → Type 0} {Q : B → Type 0} {h : A → Reading
   bind refuses f = refuses
   bind (asks g) f = asks λ w y. bind (g w y) f
 
-pub check-gives : (n : ℕ) (b : Bool) → Gives (λ _. b ≡ true) (check n b)
-check-gives n true = dones refl
-check-gives n false = refuses
+pub check-gives : (n : ℕ) (p : Pointer) (b : Bool) → Gives (λ _. b ≡ true) (checkOf n p b)
+check-gives n p true = dones refl
+check-gives n p false = refuses
 
 pub if-gives : {A : Type 0} {P : A → Type 0} (b : Bool) {p q : Reading A}
     → (b ≡ true → Gives P p) → (b ≡ false → Gives P q) → Gives P (if b then p else q)

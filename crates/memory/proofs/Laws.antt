@@ -11,7 +11,7 @@ use Rattle.memory.specs.declared.Fetch.the-variants.{Word, Absent}
 use Rattle.memory.specs.declared.Fault.{Fault}
 use Rattle.memory.specs.declared.Pointer.{Pointer}
 use Rattle.memory.specs.Word.{if_then_else_}
-use Rattle.memory.specs.Reading.{Reading, done, refuse, ask, asking, fault, absent, missing, _>>=_, check, each, fetch, Outcome, given, refused, runFrom, run}
+use Rattle.memory.specs.Reading.{Reading, done, refuse, ask, asking, blaming, fault, absent, missing, _>>=_, check, checkOf, each, fetch, Outcome, given, refused, runFrom, run}
 
 -- go on from an outcome
 abbrev next : {A B : Type 0} → Outcome A → (ℕ → A → Outcome B) → Outcome B
@@ -67,14 +67,21 @@ unfolding runFrom
 run-refuse n m x = refl
 
 -- a check that passes, and one that does not
+module _ {A : Type 0} (n : ℕ) (m : List ℕ) (i : ℕ) (p : Pointer) (b : Bool) (k : Unit {0} → Reading A) where
+  pub check-of-passed : b ≡ true → runFrom n m (checkOf i p b >>= k) ≡ runFrom n m (k tt)
+  unfolding _>>=_
+  check-of-passed e = rw e
+
+  pub check-of-failed : b ≡ false → runFrom n m (checkOf i p b >>= k) ≡ refused (blaming i p)
+  unfolding _>>=_ runFrom
+  check-of-failed e = rw e
+
 module _ {A : Type 0} (n : ℕ) (m : List ℕ) (i : ℕ) (b : Bool) (k : Unit {0} → Reading A) where
   pub check-passed : b ≡ true → runFrom n m (check i b >>= k) ≡ runFrom n m (k tt)
-  unfolding _>>=_
-  check-passed e = rw e
+  check-passed e = check-of-passed n m i _ b k e
 
   pub check-failed : b ≡ false → runFrom n m (check i b >>= k) ≡ refused (fault i)
-  unfolding _>>=_ runFrom
-  check-failed e = rw e
+  check-failed e = check-of-failed n m i _ b k e
 
 -- what `word_at` says, of a reading that asks there
 if-word : {A : Type 0} (b : Bool) (v x : ℕ) (y : ℕ → Outcome A) (z : Outcome A)

@@ -8,7 +8,7 @@ use native.Mathlib.Nat.{le-refl}
 use lib.ListN.{length, getD}
 use lib.Dec.{ltb, lit<}
 use Rattle.memory.specs.Word.{if_then_else_}
-use Rattle.memory.specs.Reading.{Ask, Reading, done, refuse, ask, _>>=_, check, Outcome, given, refused, runFrom, asked}
+use Rattle.memory.specs.Reading.{Ask, Reading, done, refuse, ask, _>>=_, check, checkOf, Outcome, given, refused, runFrom, asked}
 use Rattle.memory.specs.declared.Fault.{Fault}
 use Rattle.memory.specs.declared.Pointer.{Pointer}
 use Rattle.memory.specs.Address.{onward, words}
@@ -40,9 +40,12 @@ module _ {A B : Type 0} {P : A → Type 0} {Q : B → Type 0} {h : A → Reading
   bind l refuses f = refuses
   bind {n} {k} {t} l (asks {k = i} x g) f = asks {n = t} {k = i + k} (omega arith) (λ w y. bind (le-refl (i + k)) (g w y) f)
 
+pub check-of-reads : (n : ℕ) (p : Pointer) (b : Bool) → Reads (λ _. b ≡ true) 0 (checkOf n p b)
+check-of-reads n p true = dones refl
+check-of-reads n p false = refuses
+
 pub check-reads : (n : ℕ) (b : Bool) → Reads (λ _. b ≡ true) 0 (check n b)
-check-reads n true = dones refl
-check-reads n false = refuses
+check-reads n b = check-of-reads n _ b
 
 pub if-cases : {A : Type 0} (P : A → Type 0) (b : Bool) {x y : A} → (b ≡ true → P x) → (b ≡ false → P y) → P (if b then x else y)
 if-cases P true h k = h refl

@@ -4,7 +4,7 @@ use mathlib.Core.List.{List, [], _∷_}
 use mathlib.Core.Bool.{Bool, true, false}
 use Prim.Native.Nat.{ℕ, _+_, _/_}
 use lib.ListN.{length, getD}
-use lib.Dec.{ltb}
+use lib.Dec.{ltb, eqb}
 use Rattle.memory.specs.declared.Fetch.{Fetch}
 use Rattle.memory.specs.declared.Fetch.the-variants.{Word, Absent}
 use Rattle.memory.specs.declared.Fault.{Fault}
@@ -18,9 +18,15 @@ pub record Ask : Type 0 where
   pub address : ℕ
   pub from : ℕ
 
--- a refusal on its way up: that of a check has address 0, and "other refusals hold 0 there" (02)
+-- a refusal on its way up: that of a check has address 0. Where a pointer is to blame for it (02, mending), it has where that begins
+abbrev pub blaming : ℕ → Pointer → Fault
+blaming n p = record { number = n; address = 0; from = p .from }
+
+abbrev pub nobody : Pointer
+nobody = record { address = 0; from = 0 }
+
 abbrev pub fault : ℕ → Fault
-fault n = record { number = n; address = 0; from = 0 }
+fault n = blaming n nobody
 
 pub data Reading (A : Type 0) : Type 0 where
   done : A → Reading A
@@ -44,10 +50,14 @@ ask q f >>= k = ask q (λ w. f w >>= k)
 abbrev pub _>>_ : {A B : Type 0} → Reading A → Reading B → Reading B
 p >> q = p >>= λ _. q
 
--- refusal n, at address 0, unless the test holds
+-- refusal n, at address 0, unless the test holds: the pointer that led to what is tested is to blame
+abbrev pub checkOf : ℕ → Pointer → Bool → Reading (Unit {0})
+checkOf n p true = done tt
+checkOf n p false = refuse (blaming n p)
+
+-- .. or none is
 abbrev pub check : ℕ → Bool → Reading (Unit {0})
-check n true = done tt
-check n false = refuse (fault n)
+check n b = checkOf n nobody b
 
 -- a reading for each of a list, in order, that carries a value along
 unfoldable pub each : {A B : Type 0} → (A → B → Reading B) → List A → B → Reading B
@@ -86,6 +96,10 @@ asked m (done a) = []
 asked m (refuse x) = []
 asked m (ask q f) = q .address ∷ (if ltb (q .address / 2) (length m) then asked m (f (getD m (q .address / 2) 0)) else [])
 
+-- 02, of where the pointer in use begins: told "for refusal 7 only; other refusals hold 0 there"
+abbrev pub fromTold : Fault → ℕ
+fromTold x = if eqb (x .number) 7 then x .from else 0
+
 -- what a call tells: a refusal's number and addresses with the row, which "is 0 at the start, else the state's"
 abbrev pub refusal : ℕ → Fault → Refusal
-refusal row x = record { number = x .number; row = row; address = x .address; from = x .from }
+refusal row x = record { number = x .number; row = row; address = x .address; from = fromTold x }

@@ -4,7 +4,7 @@ ghost use Prim.Native.Nat.{_+_, _<_, _≤_};
 ghost use lib.ListN.{length, take, drop};
 ghost use lib.Dec.{leb};
 ghost use Rattle.memory.specs.Word.{bit, high, low};
-ghost use Rattle.memory.specs.Reading.{fetch, fault, missing, refusal, run};
+ghost use Rattle.memory.specs.Reading.{fetch, blaming, fault, missing, fromTold, refusal, run};
 ghost use Rattle.memory.specs.Address.{to, pointer, isAddress, forward, nextWord, ahead, onward, further, words};
 ghost use Rattle.memory.specs.Answers.{isRun, endPage, wordsRead};
 
@@ -15,7 +15,8 @@ pub struct Pointer {
     pub from: u32,
 }
 
-// A refusal on its way up, before its row is told: document 01's number, the address, and of refusal 7 where the pointer begins.
+// A refusal on its way up, before its row is told: document 01's number, the address, and of refusals 7 to 10 and 13 where the pointer to
+// blame begins.
 pub struct Fault {
     pub number: u8,
     pub address: u32,
@@ -53,6 +54,17 @@ pub fn fault_of(number: u8) -> Fault
     }
 }
 
+// The refusal of a check on what a pointer led to: the pointer is to blame.
+pub fn blame(number: u8, p: Pointer) -> Fault
+    ensures { λ r. ⌜ r ≡ blaming number p ⌝ }
+{
+    Fault {
+        number,
+        address: 0,
+        from: p.from,
+    }
+}
+
 // Refusal 7 of the word that is due.
 pub fn missing(p: Pointer) -> Fault
     ensures { λ r. ⌜ r ≡ missing p ⌝ }
@@ -72,8 +84,15 @@ pub fn refusal_of(row: u32, fault: Fault) -> Refusal
         number: fault.number,
         row,
         address: fault.address,
-        from: fault.from,
+        from: from_told(fault),
     }
+}
+
+// Where the pointer in use begins, which refusal 7 alone tells.
+fn from_told(fault: Fault) -> u32
+    ensures { λ r. ⌜ r ≡ fromTold fault ⌝ }
+{
+    if fault.number == 7 { fault.from } else { 0 }
 }
 
 // The high byte of a word.

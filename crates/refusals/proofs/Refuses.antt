@@ -8,7 +8,7 @@ use lib.Dec.{ltb}
 use Rattle.memory.specs.declared.Fault.{Fault}
 use Rattle.memory.specs.declared.Pointer.{Pointer}
 use Rattle.memory.specs.Word.{if_then_else_}
-use Rattle.memory.specs.Reading.{Ask, Reading, done, refuse, ask, _>>=_, check, each, Outcome, given, refused, runFrom}
+use Rattle.memory.specs.Reading.{Ask, Reading, done, refuse, ask, _>>=_, check, checkOf, each, Outcome, given, refused, runFrom}
 use Rattle.memory.specs.Address.{onward, words}
 use Rattle.memory.proofs.ReadBounds.{if-cases}
 use Rattle.refusals.specs.Refusals.{has}
@@ -27,11 +27,15 @@ bind (refuses h) f = refuses h
 bind (asks g) f = asks (λ w. bind (g w) f)
 
 -- a check and what comes after it, which knows that the check was met
+pub check-of-then : {B : Type 0} {ns : List ℕ} (n : ℕ) (p : Pointer) (b : Bool) {k : Unit {0} → Reading B} → has n ns ≡ true
+    → ((u : Unit {0}) → b ≡ true → Refuses ns (k u)) → Refuses ns (checkOf n p b >>= k)
+unfolding _>>=_
+check-of-then n p true h f = f tt refl
+check-of-then n p false h f = refuses h
+
 pub check-then : {B : Type 0} {ns : List ℕ} (n : ℕ) (b : Bool) {k : Unit {0} → Reading B} → has n ns ≡ true
     → ((u : Unit {0}) → b ≡ true → Refuses ns (k u)) → Refuses ns (check n b >>= k)
-unfolding _>>=_
-check-then n true h f = f tt refl
-check-then n false h f = refuses h
+check-then n b h f = check-of-then n _ b h f
 
 pub if-refuses : {A : Type 0} {ns : List ℕ} (b : Bool) {p q : Reading A} → Refuses ns p → Refuses ns q → Refuses ns (if b then p else q)
 if-refuses {ns} b h k = if-cases (Refuses ns) b (λ _. h) (λ _. k)

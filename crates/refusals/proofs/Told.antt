@@ -47,7 +47,7 @@ use Rattle.scroll.specs.Scroll as Shift
 use Rattle.joining.specs.declared.Part.{Part}
 use Rattle.effect.specs.Effect.{partOf, latchWith, outcomeFor, effectCall}
 use Rattle.refusals.specs.Refusals.{sheetNumbers, startNumbers, shiftNumbers, effectNumbers, rowNumbers, ofSheet, ofStart, ofShift, ofRow, ofPart, ofEffect, has, within}
-use Rattle.refusals.proofs.Refuses.{Refuses, dones, refuses, asks, bind, check-then, if-refuses, each-refuses, words-refuse, Told, given-told, refused-told, run-told}
+use Rattle.refusals.proofs.Refuses.{Refuses, dones, refuses, asks, bind, check-then, check-of-then, if-refuses, each-refuses, words-refuse, Told, given-told, refused-told, run-told}
 
 -- blocks
 module _ {ns : List ℕ} where
@@ -71,7 +71,7 @@ module _ {ns : List ℕ} where
   unfolding windowAt
   window-refuses h linear number least p =
       if-refuses (null p) dones (bind (words-refuse linear 6 p) λ b.
-      check-then 8 (inOrder (windowOf linear number (p .address) b .block) && leb least (windowOf linear number (p .address) b .block .top)) h λ _ _. dones)
+      check-of-then 8 p (inOrder (windowOf linear number (p .address) b .block) && leb least (windowOf linear number (p .address) b .block .top)) h λ _ _. dones)
 
   due-refuses : has 8 ns ≡ true → (linear : Bool) (row : ℕ) (w : WindowInHand) → Refuses ns (dueWindow linear row w)
   unfolding dueWindow
@@ -116,7 +116,7 @@ overlaid-refuses σ row Absent = dones
 overlaid-refuses σ row (Present w) =
     if-refuses (leb (w .block .top) row && leb row (w .block .bottom))
     (bind (block-refuses (σ .linear) false (w .rows)) λ b.
-    check-then 9 (allFit (b .segments)) refl λ _ _.
+    check-of-then 9 (w .rows) (allFit (b .segments)) refl λ _ _.
     check-then 11 (leb (total (σ .hidden) (b .segments)) (w .block .right + 1 - w .block .left)) refl λ _ _. dones)
     dones
 
@@ -124,8 +124,8 @@ background-refuses : (σ : Settings) (f : Fields) → Refuses effectNumbers (bac
 unfolding backgroundRow backgroundBlock rowBlockAt
 background-refuses σ f =
     bind (bind (block-refuses (σ .linear) true (f .next)) λ b. bind (redefined-refuses (σ .linear) (b .redefinition) (f .format)) λ t. dones) λ g.
-    check-then 9 (allFit (g .block .segments)) refl λ _ _.
-    check-then 10 (leb (total (σ .hidden) (g .block .segments)) 132) refl λ _ _. dones
+    check-of-then 9 (f .next) (allFit (g .block .segments)) refl λ _ _.
+    check-of-then 10 (f .next) (leb (total (σ .hidden) (g .block .segments)) 132) refl λ _ _. dones
 
 plan-refuses : (σ : Settings) (f : Fields) → Refuses effectNumbers (plan σ f)
 unfolding plan checkSettings

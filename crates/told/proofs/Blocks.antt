@@ -93,7 +93,7 @@ module _ (σ : Settings) (m : List ℕ) where
       if-tells (null p) (λ _. dones tt) λ e.
       bind (words-tell σ m 6 p (first σ m p s e)) λ b c.
       let w = windowOf (σ .linear) number (p .address) b .block in
-      check-then 8 (inOrder w && leb least (w .top)) refl λ _ _.
+      check-then 8 _ (inOrder w && leb least (w .top)) refl λ _ _.
       dones (pointer-stands σ m (p .address) 0 6 b (c .copied) (lit< tt), pointer-stands σ m (p .address) 2 6 b (c .copied) (lit< tt))
 
   pub due-tells : (row : ℕ) (w : WindowInHand) → WindowStands w → Says WindowStands (dueWindow (σ .linear) row w)

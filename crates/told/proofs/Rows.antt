@@ -39,14 +39,14 @@ module _ (σ : Settings) (m : List ℕ) where
   unfolding topBlock
   top-tells =
       let p = registered (σ .linear) (σ .top) in
-      check-then 6 (not (null p)) refl λ _ e.
+      check-then 6 _ (not (null p)) refl λ _ e.
       bind (main-tells σ m p (first σ m p (λ _. byTop) (not-true (null p) e))) λ b h.
-      check-then 14 (not (enabled b && ofWindow b)) refl λ _ _. dones h
+      check-then 14 _ (not (enabled b && ofWindow b)) refl λ _ _. dones h
 
   pub start-tells : (latch : ℕ) → Says σ m (λ s. Standing (s .fields)) (startFrom latch σ)
   unfolding startFrom checkSettings windowStart firstWindow firstFields
   start-tells latch =
-      check-then 2 (good σ) refl λ _ _.
+      check-then 2 _ (good σ) refl λ _ _.
       bind top-tells λ b s.
       bind (window-tells σ m 0 0 (registered (σ .linear) (σ .tow)) (λ _. byTow)) λ w h. dones (record { next = s; window = h })
 
@@ -61,8 +61,8 @@ module _ (σ : Settings) (m : List ℕ) where
   overlaid-tells row (Present w) s =
       if-tells (leb (w .block .top) row && leb row (w .block .bottom))
       (λ _. bind (block-tells σ m false (w .rows) (s .1)) λ b h.
-      check-then 9 (allFit (b .segments)) refl λ _ _.
-      check-then 11 (leb (total (σ .hidden) (b .segments)) (w .block .right + 1 - w .block .left)) refl λ _ _.
+      check-then 9 _ (allFit (b .segments)) refl λ _ _.
+      check-then 11 _ (leb (total (σ .hidden) (b .segments)) (w .block .right + 1 - w .block .left)) refl λ _ _.
       dones (record { overlay = h .segments; window = (s .0, h .link) }))
       λ _. dones (record { overlay = tt; window = s })
 
@@ -70,8 +70,8 @@ module _ (σ : Settings) (m : List ℕ) where
   unfolding backgroundRow backgroundBlock rowBlockAt
   background-tells f s =
       bind (bind (block-tells σ m true (f .next) s) λ b h. bind (redefined-tells σ m (b .redefinition) (f .format) (h .redefinition)) λ t _. dones h) λ g h.
-      check-then 9 (allFit (g .block .segments)) refl λ _ _.
-      check-then 10 (leb (total (σ .hidden) (g .block .segments)) 132) refl λ _ _. dones h
+      check-then 9 _ (allFit (g .block .segments)) refl λ _ _.
+      check-then 10 _ (leb (total (σ .hidden) (g .block .segments)) 132) refl λ _ _. dones h
 
   -- what a row is drawn from, and the next state
   record Planned (p : Plan) : Type 0 where
@@ -82,13 +82,13 @@ module _ (σ : Settings) (m : List ℕ) where
   plan-tells : (f : Fields) → Standing f → Says σ m Planned (plan σ f)
   unfolding plan checkSettings nextFields
   plan-tells f s =
-      check-then 2 (good σ) refl λ _ _.
-      check-then 3 (inRange f) refl λ _ _.
-      check-then 4 (ltb 0 (f .left)) refl λ _ _.
+      check-then 2 _ (good σ) refl λ _ _.
+      check-then 3 _ (inRange f) refl λ _ _.
+      check-then 4 _ (ltb 0 (f .left)) refl λ _ _.
       bind (due-tells σ m (f .row) (f .window) (s .window)) λ w hw.
       bind (background-tells f (s .next)) λ g hg.
       bind (overlaid-tells (f .row) w hw) λ o ho.
-      check-then 12 (edgesFit (σ .hidden) (o .overlay) (g .block .segments)) refl λ _ _.
+      check-then 12 _ (edgesFit (σ .hidden) (o .overlay) (g .block .segments)) refl λ _ _.
       dones (record { segments = hg .segments; overlay = ho .overlay; next = record { next = hg .link; window = ho .window } })
 
   pub row-tells : (s : State) → Standing (s .fields) → Says σ m (λ r. Standing (r .next)) (row σ s)

@@ -10,7 +10,7 @@ use Rattle.memory.specs.declared.Fault.{Fault}
 use Rattle.memory.specs.declared.Fetch.the-variants.{Word, Absent}
 use Rattle.memory.specs.declared.Pointer.{Pointer}
 use Rattle.memory.specs.Word.{if_then_else_}
-use Rattle.memory.specs.Reading.{Ask, Reading, done, refuse, ask, _>>=_, check, each, fetch, Outcome, given, refused, runFrom}
+use Rattle.memory.specs.Reading.{Ask, Reading, done, refuse, ask, _>>=_, checkOf, each, fetch, Outcome, given, refused, runFrom}
 use Rattle.memory.proofs.ReadBounds.{if-cases}
 
 -- the pointer of a question
@@ -46,11 +46,11 @@ module _ {m : List ℕ} {Q : Pointer → Type 0} where
   bind (asks x g) f = asks x λ w y. bind (g w y) f
 
   -- a check and what comes after it, which knows that the check was met
-  pub check-then : {B : Type 0} {R : B → Type 0} (n : ℕ) (b : Bool) {k : Unit {0} → Reading B} → eqb n 7 ≡ false
-      → ((u : Unit {0}) → b ≡ true → Tells m Q R (k u)) → Tells m Q R (check n b >>= k)
+  pub check-then : {B : Type 0} {R : B → Type 0} (n : ℕ) (p : Pointer) (b : Bool) {k : Unit {0} → Reading B} → eqb n 7 ≡ false
+      → ((u : Unit {0}) → b ≡ true → Tells m Q R (k u)) → Tells m Q R (checkOf n p b >>= k)
   unfolding _>>=_
-  check-then n true h f = f tt refl
-  check-then n false h f = refuses h
+  check-then n p true h f = f tt refl
+  check-then n p false h f = refuses h
 
   pub if-tells : {A : Type 0} {P : A → Type 0} (b : Bool) {p q : Reading A}
       → (b ≡ true → Tells m Q P p) → (b ≡ false → Tells m Q P q) → Tells m Q P (if b then p else q)

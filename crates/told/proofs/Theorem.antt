@@ -7,6 +7,7 @@ use Prim.Native.Nat.{ℕ, zero, suc}
 use native.Mathlib.Omega.{arith}
 use lib.ListN.{length}
 use lib.Dec.{eqb}
+use borrow.Author.Tests.{eq-eqb}
 use Rattle.memory.specs.declared.Fault.{Fault}
 use Rattle.memory.specs.declared.Fetch.the-variants.{Absent}
 use Rattle.memory.specs.declared.Pointer.{Pointer}
@@ -35,7 +36,7 @@ module _ (σ : Settings) (m : List ℕ) where
 
   fair : (row : ℕ) (x : Fault) → (x .number ≡ 7 → Reached σ m (record { address = x .address; from = x .from }) × (fetch m (x .address) ≡ Absent))
       → Fair (refusal row x)
-  fair row x h e = record { reached = h e .0; missing = h e .1 }
+  fair row x h e = rw (eq-eqb (x .number) 7 e) (record { reached = h e .0; missing = h e .1 })
 
   -- a step: the next state's pointers stand, or the refusal is true
   abbrev Goes : StepAnswer → Type 0

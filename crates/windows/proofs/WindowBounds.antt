@@ -9,7 +9,7 @@ use borrow.Author.Tests.{leb-true}
 use mathlib.Core.List.{List}
 use Rattle.memory.specs.declared.Pointer.{Pointer}
 use Rattle.memory.specs.Address.{null}
-use Rattle.memory.proofs.ReadBounds.{Reads, dones, implies, bind, check-reads, if-reads, both, words-read}
+use Rattle.memory.proofs.ReadBounds.{Reads, dones, implies, bind, check-of-reads, if-reads, both, words-read}
 use Rattle.windows.specs.declared.WindowBlock.{WindowBlock}
 use Rattle.windows.specs.declared.Window.{Window}
 use Rattle.windows.specs.declared.WindowInHand.{WindowInHand}
@@ -63,7 +63,7 @@ window-reads linear number least p l =
     if-reads (null p) (λ _. dones (tt, tt)) λ _.
     bind {n = 6} {k = 0} (omega arith) (words-read linear 6 p) λ b _.
     let w = windowOf linear number (p .address) b .block in
-    bind {n = 0} {k = 0} (omega arith) (check-reads 8 (inOrder w && leb least (w .top))) λ _ h.
+    bind {n = 0} {k = 0} (omega arith) (check-of-reads 8 p (inOrder w && leb least (w .top))) λ _ h.
     let k = both (inOrder w) (leb least (w .top)) h in
     dones ((in-order w (k .0), omega (arith, leb-true least (w .top) (k .1), called linear number (p .address) b)), called linear number (p .address) b)
 

@@ -5,7 +5,7 @@ use mathlib.Core.List.{List}
 use lib.Dec.{ltb, leb}
 use Rattle.memory.specs.Word.{if_then_else_, high, low, at}
 use Rattle.memory.specs.declared.Pointer.{Pointer}
-use Rattle.memory.specs.Reading.{Reading, done, _>>=_, _>>_, check}
+use Rattle.memory.specs.Reading.{Reading, done, _>>=_, _>>_, checkOf}
 use Rattle.memory.specs.Address.{pointer, null, ahead, words}
 use Rattle.windows.specs.declared.WindowBlock.{WindowBlock}
 use Rattle.windows.specs.declared.Window.{Window}
@@ -38,7 +38,7 @@ unfoldable pub windowAt : Bool → ℕ → ℕ → Pointer → Reading WindowInH
 windowAt linear number least p = if null p then done Absent else do
   b ← words linear 6 p
   let w = windowOf linear number (p .address) b
-  check 8 (inOrder (w .block) && leb least (w .block .top))
+  checkOf 8 p (inOrder (w .block) && leb least (w .block .top))
   done (Present w)
 
 -- "The first window block is read at the start."

@@ -100,7 +100,7 @@ fn window_at(mem: &[u16], linear: bool, number: u16, least: u32, p: Pointer) -> 
                     words: 6,
                 }
             } else {
-                WindowRead::Refused(memory::fault_of(8))
+                WindowRead::Refused(memory::blame(8, p))
             }
         }
         WordsRead::Refused(fault) => WindowRead::Refused(fault),

@@ -33,13 +33,7 @@ pub fn write_word(mem: &mut [u16], own: Span, other: Span, address: u32, word: u
 fn refused(number: u8) -> WriteAnswer
     ensures { λ r. ⌜ r ≡ refusedWith number ⌝ }
 {
-    let refusal = Refusal {
-        number,
-        row: 0,
-        address: 0,
-        from: 0,
-    };
-    WriteAnswer::Refused(refusal)
+    WriteAnswer::Refused(memory::refusal_of(0, memory::fault_of(number)))
 }
 
 // Whether two spans share an address.

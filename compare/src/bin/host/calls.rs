@@ -2,6 +2,7 @@
 
 use crate::desks::{Desks, Shared};
 use crate::lent::{Differs, Lent, List};
+use crate::mend::Mended;
 use compare::bus::Used;
 use compare::desks::Spans;
 use compare::host::{Beside, PART, PREFIX, ROW_WORDS};
@@ -14,7 +15,7 @@ pub struct Difference(pub String);
 pub type Checked<T> = Result<T, Difference>;
 
 /// The lines of the table.
-const LINES: [&str; 16] = [
+const LINES: [&str; 17] = [
     "sheet",
     "start",
     "row",
@@ -30,6 +31,7 @@ const LINES: [&str; 16] = [
     "writer of mail",
     "reader of mail",
     "writer of a word",
+    "mending",
     "all",
 ];
 
@@ -52,6 +54,7 @@ pub struct Tally {
     pub in_turn: InTurn,
     pub scrolls: Scrolls,
     pub desks: Desks,
+    pub mended: Mended,
 }
 
 /// Counts of frames drawn in turn.
@@ -205,12 +208,14 @@ impl Tally {
         self.in_turn.print();
         self.scrolls.print();
         self.desks.print();
+        self.mended.print();
     }
 }
 
 /// The slices that calls write, and the counts of calls.
 pub struct Calls {
     pub tally: Tally,
+    pub settings: Lent,
     pub state: Lent,
     pub cells: Lent,
     pub list: List,
@@ -250,6 +255,7 @@ impl Calls {
     pub fn new() -> Calls {
         Calls {
             tally: Tally::default(),
+            settings: Lent::new("settings"),
             state: Lent::new("state"),
             cells: Lent::new("cells"),
             list: List::new(),
@@ -500,6 +506,35 @@ impl Calls {
         self.tally.count_call(14, statuses[0]);
         memory.near = address as usize / 2;
         compare(statuses, &[memory], &("write_word", spans, address, word))
+    }
+
+    /// One step of mending, of settings and memory that it may change.
+    pub fn mend(
+        &mut self,
+        from: &[u32],
+        memory: &mut Shared,
+        latch: u16,
+        answers: usize,
+    ) -> Checked<u8> {
+        let (settings, answer) = (&mut self.settings, &mut self.answer);
+        settings.put(from);
+        answer.mark(answers);
+        let statuses = [
+            host::mend(settings.ours(), &mut memory.ours, latch, answer.ours()),
+            library::mend(
+                settings.theirs(),
+                &mut memory.theirs,
+                latch,
+                answer.theirs(),
+            ),
+        ];
+        self.tally.count_call(15, statuses[0]);
+        let given = ("mend", from, memory.ours.len(), latch, answers);
+        let status = compare(statuses, &[settings, answer], &given)?;
+        match memory.anywhere() {
+            None => Ok(status),
+            Some(found) => Err(Difference(format!("{found}\nin the call {given:?}"))),
+        }
     }
 
     pub fn bus(&mut self, burst: u16, used: &Used, from: &[u64], answers: usize) -> Checked<u8> {

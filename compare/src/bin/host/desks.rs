@@ -12,7 +12,7 @@ use compare::host::{
     settings_numbers, settings_of, state_of, Beside, PLACES, ROW_ANSWER, SETTINGS, START_ANSWER,
     STATE,
 };
-use compare::plain;
+use compare::plain::{self, Notes};
 use compare::rules::{Settings, CELLS};
 use std::collections::HashSet;
 
@@ -20,8 +20,8 @@ use std::collections::HashSet;
 const CALLS: usize = 12;
 const ACTIONS: usize = 60;
 
-/// Most words of a memory that is copied for two desks.
-const MOST: usize = 70_000;
+/// Most words of a memory that is copied.
+pub const MOST: usize = 70_000;
 
 /// The memory of both desks twice, for this side and for the library.
 pub struct Shared {
@@ -32,12 +32,25 @@ pub struct Shared {
 }
 
 impl Shared {
-    fn new(memory: &[u16]) -> Shared {
+    pub fn new(memory: &[u16]) -> Shared {
         Shared {
             ours: memory.to_vec(),
             theirs: memory.to_vec(),
             near: 0,
         }
+    }
+
+    /// The first word that differs.
+    pub fn anywhere(&self) -> Option<String> {
+        if self.ours == self.theirs {
+            return None;
+        }
+        let n = (0..self.ours.len()).find(|&n| self.ours[n] != self.theirs[n])?;
+        let (ours, theirs) = (self.ours[n], self.theirs[n]);
+        Some(format!(
+            "memory at {:06X}: here {ours:04X}, library {theirs:04X}",
+            2 * n
+        ))
     }
 }
 
@@ -145,27 +158,27 @@ impl Desk {
 
     /// The words that the next call reads, refused or not.
     fn read_by(&self, memory: &[u16]) -> Vec<u32> {
-        let mut read = Vec::new();
+        let mut notes = Notes::default();
         let Some(settings) = settings_of(&self.settings) else {
-            return read;
+            return notes.read;
         };
         if self.made == 0 {
-            let _ = plain::start(&settings, memory, self.latch, &mut read);
+            let _ = plain::start(&settings, memory, self.latch, &mut notes);
         } else if self.ended && self.shift < 0 {
             let settings = Settings {
                 top: self.soft,
                 ..settings
             };
-            if let Ok(state) = plain::start(&settings, memory, self.latch, &mut read) {
-                let _ = plain::row(&settings, memory, &state, &mut read);
+            if let Ok(state) = plain::start(&settings, memory, self.latch, &mut notes) {
+                let _ = plain::row(&settings, memory, &state, &mut notes);
             }
         } else if let Some(mut state) = state_of(&self.state) {
             if self.ended {
                 state.fields.lines_left = 1;
             }
-            let _ = plain::row(&settings, memory, &state, &mut read);
+            let _ = plain::row(&settings, memory, &state, &mut notes);
         }
-        read
+        notes.read
     }
 
     /// The next call: the start, then rows, then the row beside the cut.
@@ -376,7 +389,7 @@ pub fn take_turns(calls: &mut Calls, rng: &mut Rng, frame: &Frame) -> Checked<()
         desk.count(&mut calls.tally.desks);
     }
     must(
-        shared.ours == shared.theirs,
+        shared.anywhere().is_none(),
         "both memories are the same",
         &(),
     )

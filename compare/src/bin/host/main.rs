@@ -11,6 +11,7 @@ mod frame;
 mod in_turn;
 mod lent;
 mod mail;
+mod mend;
 mod odd;
 mod scroll;
 
@@ -384,6 +385,10 @@ fn compare(calls: &mut Calls, rng: &mut Rng, frame: &Frame) -> Checked<()> {
     scroll::frames(calls, rng, frame)?;
     scroll::odd_rows(calls, rng, frame, &real)?;
     desks::take_turns(calls, rng, frame)?;
+    mend::frames(calls, rng, frame)?;
+    if rng.once_in(8) {
+        mend::unfit(calls, rng, frame)?;
+    }
     odd_settings(calls, rng, frame, &real)?;
     odd_states(calls, rng, frame, &real)?;
     odd_effects(calls, rng)?;

@@ -9,19 +9,19 @@ use Rattle.background.proofs.background_row.Tie as tie
 returns : tie.Need-returns
 returns c =
     let g = sym (rw (c .before .before .before .before .before .before .before .block .given .1) at (c .before .before .before .before .before .before .before .before .before .background-block .ensures)) in
-    rw (c .fault-of .ensures)
-    (sym (row-checks _ _ _ g ∙ segments-unfit _ _ _ _ _ _ _ _ (c .before .before .before .measure-segments .ensures) (c .before .if1 .taken)))
+    rw (c .blame .ensures)
+    (sym (row-checks _ _ _ g ∙ segments-unfit _ _ _ _ _ _ _ _ _ _ (c .before .before .before .measure-segments .ensures) (c .before .if1 .taken)))
 
 returns-2 : tie.Need-returns-2
 returns-2 c =
     let g = sym (rw (c .before .before .before .before .before .before .before .before .before .block .given .1) at (c .before .before .before .before .before .before .before .before .before .before .before .background-block .ensures)) in
-    rw (c .fault-of2 .ensures)
-    (sym (row-checks _ _ _ g ∙ segments-wide _ _ _ _ _ _ _ _ (c .before .before .before .before .before .measure-segments .ensures) (c .before .before .before .if1 .left) (c .before .if2 .taken)))
+    rw (c .blame2 .ensures)
+    (sym (row-checks _ _ _ g ∙ segments-wide _ _ _ _ _ _ _ _ _ _ (c .before .before .before .before .before .measure-segments .ensures) (c .before .before .before .if1 .left) (c .before .if2 .taken)))
 
 returns-3 : tie.Need-returns-3
 returns-3 c =
     let g = sym (rw (c .before .before .before .before .before .before .before .before .block .given .1) at (c .before .before .before .before .before .before .before .before .before .before .background-block .ensures)) in
-    sym (row-checks _ _ _ g ∙ segments-pass _ _ _ _ _ _ _ _ (c .before .before .before .before .measure-segments .ensures) (c .before .before .if1 .left) (c .if2 .left))
+    sym (row-checks _ _ _ g ∙ segments-pass _ _ _ _ _ _ _ _ _ _ (c .before .before .before .before .measure-segments .ensures) (c .before .before .if1 .left) (c .if2 .left))
 
 returns-4 : tie.Need-returns-4
 returns-4 c = sym (row-refused _ _ _ (sym (rw (c .before .fault .given .1) at (c .before .before .before .background-block .ensures))))

@@ -8,7 +8,7 @@ use Rattle.memory.specs.Word.{low}
 use Rattle.memory.proofs.ReadBounds.{both}
 use borrow.Author.Tests.{eq-eqb, ne-eqb, leb-true}
 use Rattle.memory.specs.Reading.{given}
-use Rattle.memory.proofs.Laws.{step-given, step-refused, run-done, check-passed, check-failed}
+use Rattle.memory.proofs.Laws.{step-given, step-refused, run-done, check-of-passed, check-of-failed}
 use Rattle.memory.proofs.WordLaws.{read-whole, read-refused}
 use Rattle.windows.specs.declared.WindowBlock.{WindowBlock}
 use Rattle.windows.specs.Window.{windowOf, inOrder, windowAt}
@@ -32,15 +32,15 @@ returns-2 c =
     let number = byte _ _ (c .before .before .before .window-of .result .block) (c .before .before .before .before .before .before .before .before .before .before .before .before .before .before .pre) t (omega (arith, c .before .before .before .window-of .ok)) in
     rw (ne-eqb _ 0 (c .before .before .before .before .before .before .before .before .before .before .before .if1 .left), c .before .before .before .window-of .ensures, c .before .before .before .before .before .low-byte .ensures, number)
     (sym (step-given 0 _ _ _ (read-whole _ _ 6 _ _ _ (r .ensures) (c .before .before .before .before .before .before .enum-told .given .1) (r .kept .1 .1 .1 .0))
-    ∙ check-passed _ _ _ _ _ (rw (c .before .before .before .window-of .ensures, c .before .before .before .before .before .low-byte .ensures, number) at t) ∙ run-done _ _ _))
+    ∙ check-of-passed _ _ _ _ _ _ (rw (c .before .before .before .window-of .ensures, c .before .before .before .before .before .low-byte .ensures, number) at t) ∙ run-done _ _ _))
 
 returns-3 : tie.Need-returns-3
 unfolding windowAt windowOf
 returns-3 c =
     let r = c .before .before .before .before .before .before .before .before .before .before .read-words in
-    rw (c .fault-of .ensures, ne-eqb _ 0 (c .before .before .before .before .before .before .before .before .before .before .before .before .if1 .left))
+    rw (c .blame .ensures, ne-eqb _ 0 (c .before .before .before .before .before .before .before .before .before .before .before .before .if1 .left))
     (sym (step-given 0 _ _ _ (read-whole _ _ 6 _ _ _ (r .ensures) (c .before .before .before .before .before .before .before .enum-told .given .1) (r .kept .1 .1 .1 .0))
-    ∙ check-failed _ _ _ _ _ (sym (rw (c .before .before .before .before .window-of .ensures) at (c .before .before .may-follow .ensures)) ∙ c .before .if2 .left)))
+    ∙ check-of-failed _ _ _ _ _ _ (sym (rw (c .before .before .before .before .window-of .ensures) at (c .before .before .may-follow .ensures)) ∙ c .before .if2 .left)))
 
 returns-4 : tie.Need-returns-4
 unfolding windowAt

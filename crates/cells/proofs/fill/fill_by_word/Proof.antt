@@ -27,10 +27,11 @@ returns c =
 
 returns-2 : tie.Need-returns-2
 returns-2 c =
-    let a = c .before .before .before .before .before .before .before .before .before .args in (
-      (omega arith, omega arith),
+    let a = c .before .before .before .before .before .before .before .before .before .before .args in
+    let small : a .pen .list .next .from < 4294967296 = search needs in (
+      (omega (arith, small), omega arith),
       sym (fill-unlatched (a .words) (a .mem .now) (a .settings) (a .fill) (a .end) (soFar (a .pen) (a .cells .now)) _
-          (sym (c .before .before .before .before .before .word-at .ensures) ∙ c .before .before .before .w .given .1) (sym (c .before .bit-15 .ensures) ∙ c .if1 .left)),
+          (sym (c .before .before .before .before .before .before .word-at .ensures) ∙ c .before .before .before .before .w .given .1) (sym (c .before .before .bit-15 .ensures) ∙ c .before .if1 .left)),
     )
 
 returns-3 : tie.Need-returns-3
@@ -51,6 +52,7 @@ fill-by-word-spec =
     (λ c κs. search needs)
     (λ c κs. search needs)
     fill-run-requires
+    (λ c. search needs)
     (λ c. search needs)
     (λ c. search needs)
     (λ c κs. search needs)

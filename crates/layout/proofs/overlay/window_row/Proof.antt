@@ -8,22 +8,22 @@ use Rattle.layout.proofs.overlay.window_row.Tie as tie
 returns : tie.Need-returns
 returns c =
     let b = sym (rw (c .before .before .before .before .before .before .before .b .given .1) at (c .before .before .before .before .before .before .before .before .before .window-row-block .ensures)) in
-    rw (c .fault-of .ensures)
-    (sym (window-checks _ _ _ b ∙ segments-unfit _ _ _ _ _ _ _ _ (c .before .before .before .measure-segments .ensures) (c .before .if1 .taken)))
+    rw (c .blame .ensures)
+    (sym (window-checks _ _ _ b ∙ segments-unfit _ _ _ _ _ _ _ _ _ _ (c .before .before .before .measure-segments .ensures) (c .before .if1 .taken)))
 
 returns-2 : tie.Need-returns-2
 returns-2 c =
     let b = sym (rw (c .before .before .before .before .before .before .before .before .before .before .before .b .given .1) at (c .before .before .before .before .before .before .before .before .before .before .before .before .before .window-row-block .ensures)) in
     let l = rw (c .before .before .before .columns .ensures) at (c .before .if2 .taken) in
-    rw (c .fault-of2 .ensures)
-    (sym (window-checks _ _ _ b ∙ segments-wide _ _ _ _ _ _ _ _ (c .before .before .before .before .before .before .before .measure-segments .ensures) (c .before .before .before .before .before .if1 .left) l))
+    rw (c .fault-of .ensures)
+    (sym (window-checks _ _ _ b ∙ segments-wide _ _ _ _ _ _ _ _ _ _ (c .before .before .before .before .before .before .before .measure-segments .ensures) (c .before .before .before .before .before .if1 .left) l))
 
 returns-3 : tie.Need-returns-3
 returns-3 c =
     let b = sym (rw (c .before .before .before .before .before .before .before .before .before .before .before .before .before .before .b .given .1) at (c .before .before .before .before .before .before .before .before .before .before .before .before .before .before .before .before .window-row-block .ensures)) in
     let l = rw (c .before .before .before .before .before .before .columns .ensures) at (c .before .before .before .before .if2 .left) in
     rw (c .with-rows .ensures)
-    (sym (window-checks _ _ _ b ∙ segments-pass _ _ _ _ _ _ _ _ (c .before .before .before .before .before .before .before .before .before .before .measure-segments .ensures) (c .before .before .before .before .before .before .before .before .if1 .left) l))
+    (sym (window-checks _ _ _ b ∙ segments-pass _ _ _ _ _ _ _ _ _ _ (c .before .before .before .before .before .before .before .before .before .before .measure-segments .ensures) (c .before .before .before .before .before .before .before .before .if1 .left) l))
 
 returns-4 : tie.Need-returns-4
 returns-4 c = sym (window-refused _ _ _ (sym (rw (c .before .fault .given .1) at (c .before .before .before .window-row-block .ensures))))

@@ -1,0 +1,46 @@
+-- What the plan has checked lets the cells be drawn; the state after the row, or its refusal, is that of the whole row.
+use mathlib.Core.Path.{ap, _∙_}
+use Prim.Native.Nat.{ℕ}
+use Rattle.state.specs.State.{stateOf}
+use Rattle.cells.specs.Answers.{Finished}
+use Rattle.cells.proofs.FinishLaws.{finish-refused, finish-given}
+use Rattle.row.proofs.RowLaws.{plan-drawable, planned-refused, planned-drawn}
+use Rattle.blame.specs.declared.RowWalk.the-variants.{Next}
+use Rattle.blame.specs.Answers.{walked}
+use borrow.Author.Needs.{needs}
+use Rattle.blame.proofs.walk_cells.Statement.{statement}
+use Rattle.blame.proofs.walk_cells.Tie as tie
+
+draw-cells-requires : tie.Need-draw-cells-requires
+draw-cells-requires c κs =
+    let a = c .before .before .before .before .before .args in
+    let k = plan-drawable (a .settings) (a .mem .now) (λ i. c .before .before .before .before .shared-slice-known .given i .fits) (a .state .fields) (c .before .before .before .before .before .pre) in
+    rw (c .before .code-settings .ensures) (k .0, (k .1, search needs))
+
+returns : tie.Need-returns
+returns c =
+    let e = c .before .before .before .before .before .before .before .before .before .before in
+    let a = e .args in
+    ap walked
+    (planned-refused (a .settings) (a .mem .now) (a .state) (e .pre)
+    (finish-refused _ (rw (c .before .fault .given .1, c .before .before .before .before .before .before .code-settings .ensures) at (c .before .before .before .before .draw-cells .ensures))))
+
+returns-2 : tie.Need-returns-2
+returns-2 c =
+    let e = c .before .before .before .before .before .before .before .before .before .before .before in
+    let a = e .args in
+    let g = finish-given _ (rw (c .before .before .latch .given .1, c .before .before .before .before .before .before .before .code-settings .ensures) at (c .before .before .before .before .before .draw-cells .ensures)) in
+    ap (λ (f : Finished). Next (stateOf (f .latch) (a .p .next))) (g .same)
+    ∙ ap walked (planned-drawn (a .settings) (a .mem .now) (a .state) (e .pre) (g .is))
+
+pub walk-cells-spec : {M : Type 1} → statement M
+walk-cells-spec =
+    tie.close
+    (tie.spec
+    (λ c κs. search needs)
+    (λ c. search needs)
+    draw-cells-requires
+    (λ c. search needs)
+    (λ c. search needs)
+    returns
+    returns-2)

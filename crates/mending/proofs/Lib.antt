@@ -1,0 +1,5 @@
+pub mod Counts
+pub mod Steps
+pub mod Verdicts
+pub mod StartKept
+pub mod Mended

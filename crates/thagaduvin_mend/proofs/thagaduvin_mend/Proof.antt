@@ -1,0 +1,39 @@
+-- Each test of the code is one of `hostMend`'s: the answer's length, then whether the settings fit; `mend_into` gives the rest.
+use borrow.Author.Tests.{eq-eqb, ne-eqb}
+use Rattle.thagaduvin_mend.specs.MendCalls.{hostMend}
+use Rattle.thagaduvin_mend.proofs.LengthLaws.{fit-length}
+use borrow.Author.Needs.{needs}
+use Rattle.thagaduvin_mend.proofs.thagaduvin_mend.Statement.{statement}
+use Rattle.thagaduvin_mend.proofs.thagaduvin_mend.Tie as tie
+
+returns : tie.Need-returns
+unfolding hostMend
+returns c = rw (ne-eqb _ _ (c .if1 .taken))
+
+mend-into-requires : tie.Need-mend-into-requires
+mend-into-requires c κs = (fit-length _ (rw (c .before .before .before .before .s .given .1) at (c .before .before .before .before .before .before .settings-in .ensures)), c .before .before .before .before .before .before .before .before .if1 .left)
+
+returns-2 : tie.Need-returns-2
+unfolding hostMend
+returns-2 c =
+    rw (eq-eqb _ _ (c .before .before .before .before .before .before .before .before .before .before .before .before .before .before .before .if1 .left), ← c .before .before .before .before .before .before .before .before .before .before .before .before .before .settings-in .ensures, c .before .before .before .before .before .before .before .before .before .before .before .s .given .1) (c .before .before .before .before .before .before .mend-into .ensures)
+
+returns-3 : tie.Need-returns-3
+unfolding hostMend
+returns-3 c = rw (eq-eqb _ _ (c .before .before .before .before .if1 .left), ← c .before .before .settings-in .ensures, c .enum-told .given .1)
+
+pub thagaduvin-mend-spec : {M : Type 1} → statement M
+thagaduvin-mend-spec =
+    tie.close
+    (tie.spec
+    returns
+    (λ c κs. search needs)
+    (λ c. search needs)
+    mend-into-requires
+    (λ c. search needs)
+    (λ c. search needs)
+    (λ c. search needs)
+    (λ c. search needs)
+    returns-2
+    (λ c. search needs)
+    returns-3)
