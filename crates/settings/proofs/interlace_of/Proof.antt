@@ -1,7 +1,7 @@
 -- Each of the two tests decides one test of `interlaceOf`.
 use borrow.Author.Tests.{eq-eqb, ne-eqb}
-use Rattle.numbers.proofs.decode.interlace_of.Statement.{statement}
-use Rattle.numbers.proofs.decode.interlace_of.Tie as tie
+use Rattle.settings.proofs.interlace_of.Statement.{statement}
+use Rattle.settings.proofs.interlace_of.Tie as tie
 
 returns : tie.Need-returns
 returns c = rw (eq-eqb _ _ (c .if1 .taken))
