@@ -9,38 +9,37 @@ use Rattle.memory.specs.Word.{high}
 use Rattle.memory.specs.Address.{onward}
 use Rattle.codes.specs.declared.AttributeList.{AttributeList}
 use Rattle.addresses.specs.declared.Written.{Written}
+use Rattle.addresses.specs.Listed.{listFrom, leftAddresses}
 use Rattle.addresses.specs.Addresses.{wordIn, pair, pairAfter, single, codeAfter, codeAddresses, codeList}
 use Rattle.addresses.proofs.PlaceLaws.{sets-append}
 use Rattle.addresses.proofs.CodeAddressLaws.{pair-addresses, pair-list, pair-parts, single-addresses, single-list, none-addresses, none-list}
 use borrow.Author.Needs.{needs}
-use Rattle.addresses.proofs.of_codes.put_listed.Statement.{statement}
-use Rattle.addresses.proofs.of_codes.put_listed.Tie as tie
+use Rattle.addresses.proofs.of_listed.put_rest.Statement.{statement}
+use Rattle.addresses.proofs.of_listed.put_rest.Tie as tie
 
 abbrev Inv-loop : tie.InvT-loop
-Inv-loop mem settings n at list₀ present place₀ next₀ here₀ left₀ list place next here left =
+Inv-loop mem settings list₀ place₀ next₀ here₀ left₀ list place next here left =
     (length list ≡ length list₀)
-    × (at + length (codeAddresses settings mem n here₀ (record { present = present; next = next₀ }))
-    ≡ place + length (codeAddresses settings mem left here (record { present = present; next = next })))
-    × (codeList settings mem n here₀ (record { present = present; next = next₀ }) ≡ codeList settings mem left here (record { present = present; next = next }))
-    × (sets list₀ at (codeAddresses settings mem n here₀ (record { present = present; next = next₀ }))
-    ≡ sets list place (codeAddresses settings mem left here (record { present = present; next = next })))
+    × (place₀ + length (codeAddresses settings mem left₀ here₀ (listFrom next₀)) ≡ place + length (codeAddresses settings mem left here (listFrom next)))
+    × (codeList settings mem left₀ here₀ (listFrom next₀) ≡ codeList settings mem left here (listFrom next))
+    × (sets list₀ place₀ (codeAddresses settings mem left₀ here₀ (listFrom next₀)) ≡ sets list place (codeAddresses settings mem left here (listFrom next)))
 
 abbrev μ-loop : tie.MeasureT-loop
-μ-loop mem settings n at list₀ present place₀ next₀ here₀ left₀ list place next here left = left
+μ-loop mem settings list₀ place₀ next₀ here₀ left₀ list place next here left = left
 
 loop-holds : tie.Need-loop-holds Inv-loop μ-loop
 loop-holds c = (refl, refl, refl, refl)
 
 put-pair-requires : tie.Need-put-pair-requires Inv-loop μ-loop
 put-pair-requires c κs =
-    let a = c .before .before .before .before .before .before .before .before .args in
+    let a = c .before .before .before .before .before .before .before .before .before .args in
     let l = c .before .before .before .before .loop in
-    let u : AttributeList = record { present = a .l .present; next = l .next } in
+    let u = listFrom (l .next) in
     let w = wordIn (a .mem .now) (l .here .address) in
     rw (c .before .written-to .ensures, c .before .before .word-in .ensures)
     (omega (
       arith,
-      c .before .before .before .before .before .before .before .before .pre,
+      c .before .before .before .before .before .before .before .before .before .pre,
       l .inv .0,
       l .inv .1,
       ap length (pair-addresses (a .settings) (a .mem .now) (l .left) (l .here) u (c .before .before .before .loop-test .taken)),
@@ -49,12 +48,12 @@ put-pair-requires c κs =
 
 loop-again : tie.Need-loop-again Inv-loop μ-loop
 loop-again c =
-    let a = c .before .before .before .before .before .before .before .before .before .before .before .before .before .args in
+    let a = c .before .before .before .before .before .before .before .before .before .before .before .before .before .before .args in
     let l = c .before .before .before .before .before .before .before .before .before .loop in
     let σ = a .settings in
     let m = a .mem .now in
     let test = c .before .before .before .before .before .before .before .before .loop-test .taken in
-    let u : AttributeList = record { present = a .l .present; next = l .next } in
+    let u = listFrom (l .next) in
     let w = wordIn m (l .here .address) in
     let here = onward (σ .linear) (l .here) in
     let front = pair σ (l .here .address) u w in
@@ -63,41 +62,41 @@ loop-again c =
     let e = pair-addresses σ m (l .left) (l .here) u test in (
       c .before .before .before .before .put-pair .kept .1 .1 .1 .1 .0 ∙ l .inv .0,
       rw (r .0, c .onward .ensures)
-          (pair-parts σ u w (λ (v : AttributeList). a .at + length (codeAddresses σ m (a .n) (a .p) (a .l)) ≡ l .place + length front + length (codeAddresses σ m (l .left - 2) here v))
+          (pair-parts σ u w (λ (v : AttributeList). a .rest .at + length (leftAddresses σ m (a .rest)) ≡ l .place + length front + length (codeAddresses σ m (l .left - 2) here v))
           (omega (arith, l .inv .1, ap length e, length-append front rest))),
       rw (r .0, c .onward .ensures)
-          (pair-parts σ u w (λ (v : AttributeList). codeList σ m (a .n) (a .p) (a .l) ≡ codeList σ m (l .left - 2) here v)
+          (pair-parts σ u w (λ (v : AttributeList). codeList σ m (a .rest .left) (a .rest .here) (listFrom (a .rest .next)) ≡ codeList σ m (l .left - 2) here v)
           (l .inv .2 ∙ pair-list σ m (l .left) (l .here) u test)),
       rw (r .1, r .0, c .onward .ensures)
-          (pair-parts σ u w (λ (v : AttributeList). sets (a .list .now) (a .at) (codeAddresses σ m (a .n) (a .p) (a .l)) ≡ sets (sets (l .list) (l .place) front) (l .place + length front) (codeAddresses σ m (l .left - 2) here v))
+          (pair-parts σ u w (λ (v : AttributeList). sets (a .list .now) (a .rest .at) (leftAddresses σ m (a .rest)) ≡ sets (sets (l .list) (l .place) front) (l .place + length front) (codeAddresses σ m (l .left - 2) here v))
           (l .inv .3 ∙ ap (sets (l .list) (l .place)) e ∙ sets-append (l .list) (l .place) front rest)),
     )
 
 put-single-requires : tie.Need-put-single-requires Inv-loop μ-loop
 put-single-requires c κs =
-    let a = c .before .before .before .before .before .before .before .before .before .args in
+    let a = c .before .before .before .before .before .before .before .before .before .before .args in
     let l = c .before .before .before .before .before .loop in
-    let u : AttributeList = record { present = a .l .present; next = l .next } in
+    let u = listFrom (l .next) in
     rw (c .before .before .before .written-to2 .ensures, c .before .word-in2 .ensures)
-    (omega (arith, c .before .before .before .before .before .before .before .before .before .pre, l .inv .0, l .inv .1, ap length (single-addresses (a .settings) (a .mem .now) (l .left) (l .here) u (c .before .before .if1 .taken))))
+    (omega (arith, c .before .before .before .before .before .before .before .before .before .before .pre, l .inv .0, l .inv .1, ap length (single-addresses (a .settings) (a .mem .now) (l .left) (l .here) u (c .before .before .if1 .taken))))
 
 same-length : tie.Need-same-length Inv-loop μ-loop
 same-length c = c .before .before .put-single .kept .1 .1 .1 .1 .0 ∙ c .before .before .before .before .before .before .before .before .loop .inv .0
 
 returns : tie.Need-returns Inv-loop μ-loop
 returns c =
-    let a = c .before .before .before .before .before .before .before .before .before .before .before .before .args in
+    let a = c .before .before .before .before .before .before .before .before .before .before .before .before .before .args in
     let l = c .before .before .before .before .before .before .before .before .loop in
     let σ = a .settings in
     let m = a .mem .now in
-    let u : AttributeList = record { present = a .l .present; next = l .next } in
+    let u = listFrom (l .next) in
     let one = c .before .before .before .before .before .if1 .taken in
     let r = rw (c .before .before .before .before .before .before .written-to2 .ensures, c .before .before .before .before .word-in2 .ensures) at (c .before .before .put-single .ensures) in
     let e = single-addresses σ m (l .left) (l .here) u one in
-    let place : l .place + length (single σ (l .here .address) u (wordIn m (l .here .address))) ≡ a .at + length (codeAddresses σ m (a .n) (a .p) (a .l)) = omega (arith, l .inv .1, ap length e) in (
+    let place : l .place + length (single σ (l .here .address) u (wordIn m (l .here .address))) ≡ a .rest .at + length (leftAddresses σ m (a .rest)) = omega (arith, l .inv .1, ap length e) in (
       r .0
           ∙ ap (λ (k : ℕ). record { at = k; list = codeAfter σ u (high (wordIn m (l .here .address))) }) place
-          ∙ ap (λ (v : AttributeList). record { at = a .at + length (codeAddresses σ m (a .n) (a .p) (a .l)); list = v }) (sym (l .inv .2 ∙ single-list σ m (l .left) (l .here) u one)),
+          ∙ ap (λ (v : AttributeList). record { at = a .rest .at + length (leftAddresses σ m (a .rest)); list = v }) (sym (l .inv .2 ∙ single-list σ m (l .left) (l .here) u one)),
       r .1 ∙ sym (l .inv .3 ∙ ap (sets (l .list) (l .place)) e),
     )
 
@@ -106,22 +105,22 @@ same-length-2 c = c .before .before .before .loop .inv .0
 
 returns-2 : tie.Need-returns-2 Inv-loop μ-loop
 returns-2 c =
-    let a = c .before .before .before .before .before .before .before .args in
+    let a = c .before .before .before .before .before .before .before .before .args in
     let l = c .before .before .before .loop in
     let σ = a .settings in
     let m = a .mem .now in
-    let u : AttributeList = record { present = a .l .present; next = l .next } in
+    let u = listFrom (l .next) in
     let none : l .left ≡ 0 = omega arith in
     let e = none-addresses σ m (l .left) (l .here) u none in
-    let place : l .place ≡ a .at + length (codeAddresses σ m (a .n) (a .p) (a .l)) = omega (arith, l .inv .1, ap length e) in (
+    let place : l .place ≡ a .rest .at + length (leftAddresses σ m (a .rest)) = omega (arith, l .inv .1, ap length e) in (
       c .before .written-to2 .ensures
           ∙ ap (λ (k : ℕ). record { at = k; list = u }) place
-          ∙ ap (λ (v : AttributeList). record { at = a .at + length (codeAddresses σ m (a .n) (a .p) (a .l)); list = v }) (sym (l .inv .2 ∙ none-list σ m (l .left) (l .here) u none)),
+          ∙ ap (λ (v : AttributeList). record { at = a .rest .at + length (leftAddresses σ m (a .rest)); list = v }) (sym (l .inv .2 ∙ none-list σ m (l .left) (l .here) u none)),
       sym (l .inv .3 ∙ ap (sets (l .list) (l .place)) e),
     )
 
-pub put-listed-spec : {M : Type 1} → statement M
-put-listed-spec =
+pub put-rest-spec : {M : Type 1} → statement M
+put-rest-spec =
     tie.close
     (tie.spec
     Inv-loop
