@@ -9,7 +9,7 @@ use lib.ListN.{length, getD}
 use lib.Dec.{ltb, leb, lit<}
 use Rattle.memory.specs.Word.{if_then_else_, bit, at}
 use Rattle.memory.specs.declared.Pointer.{Pointer}
-use Rattle.memory.specs.Reading.{Reading, done, _>>=_, checkOf}
+use Rattle.memory.specs.Reading.{Reading, done, _>>=_, readAs, onePointer, checkOf, check}
 use Rattle.memory.specs.Address.{nothing, pointer, null, nextWord, ahead, onward, further, words}
 use Rattle.memory.proofs.RunLaws.{ahead-add}
 use Rattle.settings.specs.declared.Settings.{Settings}
@@ -17,11 +17,11 @@ use Rattle.settings.specs.Good.{checkSettings, good}
 use Rattle.windows.specs.declared.Window.{Window}
 use Rattle.windows.specs.declared.WindowInHand.{WindowInHand}
 use Rattle.windows.specs.declared.WindowInHand.the-variants.{Absent, Present}
-use Rattle.windows.specs.Window.{windowOf, inOrder, windowAt, firstWindow, dueWindow}
+use Rattle.windows.specs.Window.{windowOf, twoPointers, inOrder, windowAt, firstWindow, dueWindow}
 use Rattle.blocks.specs.declared.MainBlock.{MainBlock}
 use Rattle.blocks.specs.declared.RowFormat.{RowFormat}
 use Rattle.blocks.specs.Main.{mainBlock, mainBlockAt}
-use Rattle.blocks.specs.RowBlock.{RowBlock, noBlock, segmentsFrom, restOfBlock, blockAt, rowBlockAt, windowRowAt, formatOf, redefined}
+use Rattle.blocks.specs.RowBlock.{RowBlock, noBlock, segmentRoles, segmentsFrom, restOfBlock, blockAt, rowBlockAt, windowRowAt, formatOf, redefined}
 use Rattle.state.specs.declared.Fields.{Fields}
 use Rattle.state.specs.declared.State.{State}
 use Rattle.state.specs.State.{inRange}
@@ -32,7 +32,7 @@ use Rattle.plan.specs.Plan.{Plan, plan}
 use Rattle.start.specs.Top.{registered, topBlock, enabled, ofWindow}
 use Rattle.start.specs.Start.{windowStart, startFrom}
 use Rattle.addresses.specs.Addresses.{wordIn, inTurn, pointed, headWord, blockWords, pointerIn, redefinitionOf, dueOf, rowsOf, overRows, planAddresses, startAddresses}
-use Rattle.addresses.proofs.Trace.{Trace, dones, asks, parts, joined, alone, trace-done, trace-check, trace-check-of}
+use Rattle.addresses.proofs.Trace.{Trace, dones, asks, parts, joined, alone, trace-done, trace-check, trace-check-of, trace-as}
 
 -- words one after the other: their addresses, and each as memory has it
 pub record Read (m : List ℕ) (l : Bool) (k a : ℕ) (xs ws : List ℕ) : Type 0 where
@@ -86,12 +86,12 @@ module _ (m : List ℕ) (l : Bool) where
       w₁ ws = windowOf l number (p .address) ws
 
       by : (b : Bool) {xs : List ℕ} {w : WindowInHand}
-          → Trace m (if b then done Absent else (words l 6 p >>= λ ws. checkOf 8 p (inOrder (w₁ ws .block) && leb least (w₁ ws .block .top)) >>= λ _. done (Present (w₁ ws)))) xs w
+          → Trace m (if b then done Absent else (readAs twoPointers (words l 6 p) >>= λ ws. checkOf 8 p (inOrder (w₁ ws .block) && leb least (w₁ ws .block .top)) >>= λ _. done (Present (w₁ ws)))) xs w
           → WindowAsked (if b then [] else inTurn l 6 (p .address)) (pointerIn l m 2 (p .address)) xs w
       by true dones = record { addresses = refl; block = λ x e. absent x e }
       by false t =
-          let r = parts (words l 6 p) _ t in
-          let f = words-asked m l 6 p (r .one) in
+          let r = parts (readAs twoPointers (words l 6 p)) _ t in
+          let f = words-asked m l 6 p (trace-as twoPointers (words l 6 p) (r .one)) in
           let ended = trace-done (trace-check-of 8 p (inOrder (w₁ (r .result) .block) && leb least (w₁ (r .result) .block .top)) (λ _. done (Present (w₁ (r .result)))) (r .two) .1) in
           record {
             addresses = alone (r .sum) (f .addresses) (ended .0);
@@ -132,10 +132,10 @@ module _ (m : List ℕ) (l : Bool) where
   unfolding restOfBlock words ahead
   rest-asked p head w k e {xs} {b} t =
       let a = p .address in
-      let r = parts (words l k (further l 3 p)) _ t in
-      let f = words-asked m l k (further l 3 p) (r .one) in
-      let s = parts (words l (5 * (at head 2 % 16)) (further l (3 + k) p)) _ (r .two) in
-      let g = words-asked m l (5 * (at head 2 % 16)) (further l (3 + k) p) (s .one) in
+      let r = parts (readAs onePointer (words l k (further l 3 p))) _ t in
+      let f = words-asked m l k (further l 3 p) (trace-as onePointer (words l k (further l 3 p)) (r .one)) in
+      let s = parts (readAs (segmentRoles (at head 2 % 16)) (words l (5 * (at head 2 % 16)) (further l (3 + k) p))) _ (r .two) in
+      let g = words-asked m l (5 * (at head 2 % 16)) (further l (3 + k) p) (trace-as (segmentRoles (at head 2 % 16)) (words l (5 * (at head 2 % 16)) (further l (3 + k) p)) (s .one)) in
       let ended = trace-done (s .two) in
       let re = ap (λ (x : RowBlock). x .redefinition) (sym (ended .1)) in
       record {
@@ -145,7 +145,7 @@ module _ (m : List ℕ) (l : Bool) where
         with-pointer = λ two.
             re ∙ ap₂ (pointer l (ahead l 3 a)) (f .each 0 (omega arith)) (f .each 1 (omega arith) ∙ ap (wordIn m) (ahead-add l 3 1 a));
         without = λ none.
-            re ∙ ap (λ (ws : List ℕ). pointer l (ahead l 3 a) (at ws 0) (at ws 1)) (no-words k (further l 3 p) none (r .one)) ∙ null-pointer l (ahead l 3 a);
+            re ∙ ap (λ (ws : List ℕ). pointer l (ahead l 3 a) (at ws 0) (at ws 1)) (no-words k (further l 3 p) none (trace-as onePointer (words l k (further l 3 p)) (r .one))) ∙ null-pointer l (ahead l 3 a);
       }
 
   pub record BlockAsked (redefines : Bool) (p : Pointer) (xs : List ℕ) (b : RowBlock) : Type 0 where
@@ -165,12 +165,12 @@ module _ (m : List ℕ) (l : Bool) where
       chosen false k e q = q .without e
 
       by : (t : Bool) → null p ≡ t → {xs : List ℕ} {b : RowBlock}
-          → Trace m (if t then done noBlock else (words l 3 p >>= λ head. restOfBlock l p head (if redefines && bit 15 (at head 2) then 2 else 0))) xs b
+          → Trace m (if t then done noBlock else (readAs onePointer (words l 3 p) >>= λ head. restOfBlock l p head (if redefines && bit 15 (at head 2) then 2 else 0))) xs b
           → BlockAsked redefines p xs b
       by true n dones = record { addresses = rw n; redefinition = λ _. rw n }
       by false n t =
-          let r = parts (words l 3 p) _ t in
-          let f = words-asked m l 3 p (r .one) in
+          let r = parts (readAs onePointer (words l 3 p)) _ t in
+          let f = words-asked m l 3 p (trace-as onePointer (words l 3 p) (r .one)) in
           let third = f .each 2 (lit< tt) in
           let k : ℕ = if redefines && bit 15 (at (r .result) 2) then 2 else 0 in
           let q = rest-asked p (r .result) w k third (r .two) in
@@ -278,8 +278,8 @@ module _ (m : List ℕ) (σ : Settings) where
       let r = parts (topBlock l (σ .top)) _ (trace-check 2 (good σ) _ t .1) in
       let six = trace-check 6 (not (null top)) _ (r .one) in
       let u = parts (mainBlockAt l top) _ (six .1) in
-      let v = parts (words l 7 top) _ (u .one) in
-      let main = alone (v .sum) (words-asked m l 7 top (v .one) .addresses ∙ sym (not-null top (six .0))) (trace-done (v .two) .0) in
+      let v = parts (readAs onePointer (words l 7 top)) _ (u .one) in
+      let main = alone (v .sum) (words-asked m l 7 top (trace-as onePointer (words l 7 top) (v .one)) .addresses ∙ sym (not-null top (six .0))) (trace-done (v .two) .0) in
       let checked = trace-done (trace-check 14 (not (enabled (u .result) && ofWindow (u .result))) _ (u .two) .1) in
       let w = parts (windowAt l 0 0 tow) _ (r .two) in
       let window = window-asked m l 0 0 tow (w .one) .addresses in

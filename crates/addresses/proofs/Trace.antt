@@ -9,7 +9,7 @@ use lib.Dec.{ltb}
 use Rattle.memory.specs.Word.{if_then_else_}
 use Rattle.memory.specs.declared.Fault.{Fault}
 use Rattle.memory.specs.declared.Pointer.{Pointer}
-use Rattle.memory.specs.Reading.{Ask, Reading, done, refuse, ask, absent, _>>=_, check, checkOf, Outcome, given, refused, runFrom, asked}
+use Rattle.memory.specs.Reading.{Role, readAs, Ask, Reading, done, refuse, ask, absent, _>>=_, check, checkOf, Outcome, given, refused, runFrom, asked}
 use Rattle.memory.proofs.ReadBounds.{Words}
 use Rattle.memory.proofs.Gives.{Gives}
 use Rattle.memory.proofs.Gives as Gives
@@ -95,3 +95,11 @@ trace-check-of n p false k t = absurd (no-refusal t)
 pub trace-check : {A : Type 0} {m : List ℕ} (n : ℕ) (t : Bool) (k : Unit {0} → Reading A) {xs : List ℕ} {a : A} → Trace m (check n t >>= k) xs a
     → (t ≡ true) × Trace m (k tt) xs a
 trace-check n t k u = trace-check-of n _ t k u
+
+-- what a word is read as is not looked at
+pub trace-as : {A : Type 0} {m : List ℕ} (rs : List Role) (p : Reading A) {xs : List ℕ} {a : A} → Trace m (readAs rs p) xs a → Trace m p xs a
+unfolding readAs
+trace-as [] p t = t
+trace-as (r ∷ rs) (done a) t = t
+trace-as (r ∷ rs) (refuse x) t = t
+trace-as (r ∷ rs) (ask q f) (asks t) = asks (trace-as rs _ t)

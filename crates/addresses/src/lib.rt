@@ -18,6 +18,7 @@ mod consecutive; // words one after the other
 mod of_blocks; // the blocks of a row
 mod of_cells; // the cells of a row, left to right
 mod of_codes; // the codes of a segment, and the words that they take
+mod of_listed; // the codes of a segment with a list, faster where their words stand one after the other in memory
 
 // Where writing stands: the next place of the list, and the attribute list in use.
 pub struct Written {

@@ -1,6 +1,8 @@
 // The words of a segment's codes, each followed by the words that its codes take.
 use crate::Written;
 use crate::consecutive;
+use crate::of_listed;
+use crate::of_listed::Rest;
 use codes::AttributeList;
 use codes::CodeSettings;
 use codes::attribute;
@@ -29,7 +31,14 @@ pub(crate) fn put_codes(
     ensures { λ _. ⌜ now (list .exit) ≡ sets (now (list .entry)) at (codeAddresses settings (now (mem .entry)) n p l) ⌝ }
 {
     if l.present {
-        put_listed(mem, settings, n, p, l, at, list)
+        let next = l.next;
+        let rest = Rest {
+            left: n,
+            here: p,
+            next,
+            at,
+        };
+        of_listed::put_listed(mem, settings, rest, list)
     } else {
         let words = ((n + 1) / 2) as usize;
         consecutive::put_run(settings.linear, words, p.address, at, list);
@@ -68,45 +77,8 @@ pub(crate) fn put_taken(
     }
 }
 
-// Codes with a list, word by word.
-fn put_listed(
-    mem: &[u16],
-    settings: CodeSettings,
-    n: u32,
-    p: Pointer,
-    l: AttributeList,
-    at: usize,
-    list: &mut [u32],
-) -> Written
-    requires { ⌜ at + length (codeAddresses settings (now mem) n p l) ≤ length (now list) ⌝ }
-    ensures { λ r. ⌜ r ≡ writtenTo at (codeAddresses settings (now (mem .entry)) n p l) (codeList settings (now (mem .entry)) n p l) ⌝ }
-    ensures { λ _. ⌜ now (list .exit) ≡ sets (now (list .entry)) at (codeAddresses settings (now (mem .entry)) n p l) ⌝ }
-{
-    let present = l.present;
-    let mut place = at;
-    let mut next = l.next;
-    let mut here = p;
-    let mut left = n;
-    while 1 < left {
-        let w = consecutive::word_in(mem, here.address);
-        let to = written_to(place, present, next);
-        let after = put_pair(settings, here.address, w, to, list);
-        place = after.at;
-        next = after.list.next;
-        here = memory::onward(settings.linear, here);
-        left -= 2;
-    }
-    let to = written_to(place, present, next);
-    if left == 1 {
-        let w = consecutive::word_in(mem, here.address);
-        put_single(settings, here.address, w, to, list)
-    } else {
-        to
-    }
-}
-
 // Where writing stands, from its parts: carried whole through the loop, the list would be copied through memory at each code.
-fn written_to(at: usize, present: bool, next: Pointer) -> Written
+pub(crate) fn written_to(at: usize, present: bool, next: Pointer) -> Written
     ensures { λ r. ⌜ r ≡ record { at = at; list = record { present = present; next = next } } ⌝ }
 {
     let list = AttributeList { present, next };
@@ -114,7 +86,13 @@ fn written_to(at: usize, present: bool, next: Pointer) -> Written
 }
 
 // A word with two codes.
-fn put_pair(settings: CodeSettings, a: u32, w: u16, to: Written, list: &mut [u32]) -> Written
+pub(crate) fn put_pair(
+    settings: CodeSettings,
+    a: u32,
+    w: u16,
+    to: Written,
+    list: &mut [u32],
+) -> Written
     requires { ⌜ to .at + length (pair settings a (to .list) w) ≤ length (now list) ⌝ }
     ensures { λ r. ⌜ r ≡ writtenTo (to .at) (pair settings a (to .list) w) (pairAfter settings (to .list) w) ⌝ }
     ensures { λ _. ⌜ now (list .exit) ≡ sets (now (list .entry)) (to .at) (pair settings a (to .list) w) ⌝ }
@@ -126,7 +104,13 @@ fn put_pair(settings: CodeSettings, a: u32, w: u16, to: Written, list: &mut [u32
 }
 
 // A word with one code.
-fn put_single(settings: CodeSettings, a: u32, w: u16, to: Written, list: &mut [u32]) -> Written
+pub(crate) fn put_single(
+    settings: CodeSettings,
+    a: u32,
+    w: u16,
+    to: Written,
+    list: &mut [u32],
+) -> Written
     requires { ⌜ to .at + length (single settings a (to .list) w) ≤ length (now list) ⌝ }
     ensures { λ r. ⌜ r ≡ writtenTo (to .at) (single settings a (to .list) w) (codeAfter settings (to .list) (high w)) ⌝ }
     ensures { λ _. ⌜ now (list .exit) ≡ sets (now (list .entry)) (to .at) (single settings a (to .list) w) ⌝ }

@@ -8,7 +8,6 @@ use Rattle.start.specs.declared.StartAnswer.{StartAnswer}
 use Rattle.start.specs.declared.StartAnswer.the-variants as Start
 use Rattle.row.specs.declared.RowAnswer.{RowAnswer}
 use Rattle.row.specs.declared.RowAnswer.the-variants as Row
-use Rattle.row.specs.Row.{Called}
 use Rattle.numbers.specs.Encode.{stateNumbers}
 use Rattle.answers.specs.AnswerNumbers.{sheetNumbers, oneNumber, rowNumbers, withRefusal}
 
@@ -53,6 +52,3 @@ afterStart state answer (Start.Refused r) = stated (r .number) state (withRefusa
 abbrev pub rowAnswered : List ℕ → List ℕ → List ℕ → RowAnswer → Drawn
 rowAnswered state answer cells (Row.Accepted d) = drawn 0 (stateNumbers (d .next)) cells (rowNumbers d)
 rowAnswered state answer cells (Row.Refused r) = drawn (r .number) state cells (withRefusal r answer)
-
-abbrev pub afterRow : List ℕ → List ℕ → Called → Drawn
-afterRow state answer out = rowAnswered state answer (out .buffer) (out .answer)

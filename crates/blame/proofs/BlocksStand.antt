@@ -10,18 +10,18 @@ use borrow.Author.Tests.{leb-true, le-leb, ltb-true}
 use Rattle.memory.specs.declared.Fault.{Fault}
 use Rattle.memory.specs.declared.Pointer.{Pointer}
 use Rattle.memory.specs.Word.{if_then_else_, bit, high, low, at}
-use Rattle.memory.specs.Reading.{Reading, _>>=_, blaming}
+use Rattle.memory.specs.Reading.{readAs, onePointer, Reading, _>>=_, blaming}
 use Rattle.memory.specs.Address.{pointer, null, isAddress, ahead, further, words}
 use Rattle.memory.proofs.ReadBounds.{Words, both, if-cases}
 use Rattle.blocks.specs.declared.Segment.{Segment}
 use Rattle.blocks.specs.declared.RowFormat.{RowFormat}
-use Rattle.blocks.specs.RowBlock.{RowBlock, segmentOf, segmentsAt, segmentsFrom, restOfBlock, blockAt, formatOf, redefined}
+use Rattle.blocks.specs.RowBlock.{segmentRoles, RowBlock, segmentOf, segmentsAt, segmentsFrom, restOfBlock, blockAt, formatOf, redefined}
 use Rattle.windows.specs.declared.Window.{Window}
 use Rattle.windows.specs.declared.WindowInHand.{WindowInHand}
 use Rattle.windows.specs.declared.WindowInHand.the-variants.{Absent, Present}
-use Rattle.windows.specs.Window.{inOrder, windowOf, windowAt}
+use Rattle.windows.specs.Window.{twoPointers, inOrder, windowOf, windowAt}
 use Rattle.state.specs.State.{formatInRange}
-use Rattle.blame.proofs.Comes.{Comes, dones, bind, check-then, if-comes}
+use Rattle.blame.proofs.Comes.{as-comes, Comes, dones, bind, check-then, if-comes}
 use Rattle.blame.proofs.Standing.{Held, Stands, address, stands, null-stands, nothing-stands, From, words-come, later, ahead-address}
 
 module _ (m : List ℕ) (b : Words m) (linear : Bool) where
@@ -65,7 +65,7 @@ module _ (m : List ℕ) (b : Words m) (linear : Bool) where
           → Comes m Q (BlockStands p) (segmentsFrom linear p head r k)
       unfolding ahead
       from-stand head e r h k =
-          bind m Q (words-come m b linear Q (5 * (at head 2 % 16)) (further linear k p) q) λ gs g.
+          bind m Q (as-comes m Q (segmentRoles (at head 2 % 16)) (words-come m b linear Q (5 * (at head 2 % 16)) (further linear k p) q)) λ gs g.
           dones
           (record {
             link = stands m b linear (p .address) _ _ (address m b linear p s) (e 0 (lit< tt)) (e 1 (lit< tt));
@@ -77,9 +77,9 @@ module _ (m : List ℕ) (b : Words m) (linear : Bool) where
       -- a redefinition pointer follows, or none does
       rest-stands : (redefines : Bool) (head : List ℕ) → From m b linear 3 (p .address) head
           → Comes m Q (BlockStands p) (restOfBlock linear p head (if redefines then 2 else 0))
-      unfolding restOfBlock ahead words _>>=_
+      unfolding restOfBlock ahead words readAs _>>=_
       rest-stands true head e =
-          bind m Q (words-come m b linear Q 2 (further linear 3 p) q) λ re r.
+          bind m Q (as-comes m Q onePointer (words-come m b linear Q 2 (further linear 3 p) q)) λ re r.
           from-stand head e _
           (stands m b linear (ahead linear 3 (p .address)) _ _ (ahead-address m b linear 3 (p .address) (address m b linear p s)) (r 0 (lit< tt)) (r 1 (lit< tt))) 5
       rest-stands false head e = from-stand head e _ (null-stands m b linear (ahead linear 3 (p .address))) 3
@@ -90,7 +90,7 @@ module _ (m : List ℕ) (b : Words m) (linear : Bool) where
     block-stands redefines p s q =
         if-comes m Q (null p)
         (λ _. dones (record { link = nothing-stands m b linear; redefinition = nothing-stands m b linear; segments = tt; none = λ _. refl }))
-        (λ n. bind m Q (words-come m b linear Q 3 p (q n)) λ head e. rest-stands p s n (q n) (redefines && bit 15 (at head 2)) head e)
+        (λ n. bind m Q (as-comes m Q onePointer (words-come m b linear Q 3 p (q n))) λ head e. rest-stands p s n (q n) (redefines && bit 15 (at head 2)) head e)
 
     -- a redefinition's format is in range
     pub format-stands : (p : Pointer) (t : RowFormat) → (null p ≡ false → Blames p) → formatInRange t ≡ true
@@ -109,7 +109,7 @@ module _ (m : List ℕ) (b : Words m) (linear : Bool) where
     unfolding windowAt windowOf ahead
     window-stands R number least p l h q =
         if-comes m Q (null p) (λ _. dones tt) λ n.
-        bind m Q (words-come m b linear Q 6 p (q n .0)) λ ws e.
+        bind m Q (as-comes m Q twoPointers (words-come m b linear Q 6 p (q n .0))) λ ws e.
         let w = windowOf linear number (p .address) ws in
         check-then m Q 8 p (inOrder (w .block) && leb least (w .block .top)) (λ _. q n .1) λ _ t.
         let k = both (inOrder (w .block)) (leb least (w .block .top)) t in

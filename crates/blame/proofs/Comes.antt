@@ -9,7 +9,7 @@ use lib.Dec.{ltb}
 use Rattle.memory.specs.declared.Fault.{Fault}
 use Rattle.memory.specs.declared.Pointer.{Pointer}
 use Rattle.memory.specs.Word.{if_then_else_}
-use Rattle.memory.specs.Reading.{Ask, Reading, done, refuse, ask, absent, blaming, _>>=_, checkOf, each, Outcome, given, refused, runFrom}
+use Rattle.memory.specs.Reading.{Role, readAs, Ask, Reading, done, refuse, ask, absent, blaming, _>>=_, checkOf, each, Outcome, given, refused, runFrom}
 use Rattle.memory.proofs.ReadBounds.{if-cases}
 
 module _ (m : List ℕ) (Q : Fault → Type 0) where
@@ -24,6 +24,14 @@ module _ (m : List ℕ) (Q : Fault → Type 0) where
   bind (dones {a} h) f = f a h
   bind (refuses h) f = refuses h
   bind (asks h g) f = asks h (bind g f)
+
+  -- what a word is read as is not looked at
+  pub as-comes : {A : Type 0} {P : A → Type 0} (rs : List Role) {p : Reading A} → Comes P p → Comes P (readAs rs p)
+  unfolding readAs
+  as-comes [] h = h
+  as-comes (r ∷ rs) (dones x) = dones x
+  as-comes (r ∷ rs) (refuses x) = refuses x
+  as-comes (r ∷ rs) (asks x g) = asks x (as-comes rs g)
 
   -- a check and what comes after it
   pub check-then : {B : Type 0} {R : B → Type 0} (n : ℕ) (p : Pointer) (b : Bool) {k : Unit {0} → Reading B} → (b ≡ false → Q (blaming n p))

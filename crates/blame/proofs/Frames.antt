@@ -10,7 +10,7 @@ use borrow.Author.Tests.{eqb-false, le-leb}
 use Rattle.memory.specs.declared.Fault.{Fault}
 use Rattle.memory.specs.declared.Refusal.{Refusal}
 use Rattle.memory.specs.Word.{if_then_else_, at}
-use Rattle.memory.specs.Reading.{Reading, _>>=_, nobody, blaming, Outcome, given, refused, refusal, runFrom, run}
+use Rattle.memory.specs.Reading.{onePointer, Reading, _>>=_, nobody, blaming, Outcome, given, refused, refusal, runFrom, run}
 use Rattle.memory.specs.Address.{pointer, null, isAddress, ahead}
 use Rattle.memory.proofs.Laws.{bind-given, bind-refused, bind-bind}
 use Rattle.memory.proofs.ReadBounds.{Words, if-cases}
@@ -34,7 +34,7 @@ use Rattle.blame.specs.declared.Place.the-variants.{Register, Memory}
 use Rattle.blame.specs.declared.Verdict.{Verdict}
 use Rattle.blame.specs.declared.Verdict.the-variants.{Whole, Blamed, Refused}
 use Rattle.blame.specs.Blame.{leader, blamed, mendable, refusedRow, nextState, byRow, rowsWithin, rows, mainOf, byStart, verdict}
-use Rattle.blame.proofs.Comes.{Comes, dones, bind, check-then, if-comes, comes-given, comes-refused}
+use Rattle.blame.proofs.Comes.{as-comes, Comes, dones, bind, check-then, if-comes, comes-given, comes-refused}
 use Rattle.blame.proofs.Standing.{Stands, pointer-address, pointer-words, stands, words-come}
 use Rattle.blame.proofs.BlocksStand.{window-stands}
 use Rattle.blame.proofs.RowStands.{HeldAt, FieldsStand, LedTo, Ready, Mends, row-stands}
@@ -92,7 +92,7 @@ module _ (σ : Settings) (m : List ℕ) (b : Words m) (regs : Registers σ) wher
       check-then m (λ _. Unit {0}) 2 nobody (good σ) (λ _. tt) λ _ g.
       check-then m (λ _. Unit {0}) 6 nobody (not (null p)) (λ _. tt) λ _ _.
       bind m (λ _. Unit {0}) {P = MainStands}
-      (bind m (λ _. Unit {0}) (words-come m b (σ .linear) (λ _. Unit {0}) 7 p (λ a. tt)) λ ws e.
+      (bind m (λ _. Unit {0}) (as-comes m (λ _. Unit {0}) onePointer (words-come m b (σ .linear) (λ _. Unit {0}) 7 p (λ a. tt))) λ ws e.
       dones (g, stands m b (σ .linear) (p .address) _ _ (pointer-address (σ .linear) 0 (σ .top .first) (σ .top .second) (regs .top)) (e 0 (lit< tt)) (e 1 (lit< tt)), omega arith, omega arith))
       λ k hk.
       check-then m (λ _. Unit {0}) 14 nobody (not (enabled k && ofWindow k)) (λ _. tt) λ _ _. dones hk

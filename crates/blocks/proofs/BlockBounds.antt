@@ -11,11 +11,13 @@ use lib.Dec.{ltb, leb, lit≤}
 use borrow.Author.Tests.{leb-true}
 use Rattle.memory.specs.declared.Pointer.{Pointer}
 use Rattle.memory.specs.Word.{if_then_else_, bit, at}
+use Rattle.memory.specs.Reading.{onePointer}
 use Rattle.memory.specs.Address.{null, ahead, further}
 use Rattle.memory.proofs.ReadBounds.{Words, Reads, dones, weaken, bind, check-reads, if-reads, both, words-read}
+use Rattle.memory.proofs.Roles.{as-reads}
 use Rattle.blocks.specs.declared.Segment.{Segment}
 use Rattle.blocks.specs.declared.RowFormat.{RowFormat}
-use Rattle.blocks.specs.RowBlock.{formatOf, segmentOf, segmentsAt, restOfBlock, blockAt, rowBlockAt, windowRowAt, redefined}
+use Rattle.blocks.specs.RowBlock.{formatOf, segmentOf, segmentsAt, segmentRoles, restOfBlock, blockAt, rowBlockAt, windowRowAt, redefined}
 
 -- ---- row blocks ----
 -- segments whose lengths fit a byte; at most n of them
@@ -38,8 +40,8 @@ rest-reads : (linear : Bool) (p : Pointer) (head : List ℕ) (pointed : ℕ)
 unfolding restOfBlock
 rest-reads linear p head pointed =
     let n = at head 2 % 16 in
-    bind {n = pointed} {k = 75} (omega arith) (words-read linear pointed (further linear 3 p)) λ re _.
-    bind {n = 5 * n} {k = 0} (omega arith) (words-read linear (5 * n) (further linear (3 + pointed) p)) λ gs h.
+    bind {n = pointed} {k = 75} (omega arith) (as-reads onePointer (words-read linear pointed (further linear 3 p))) λ re _.
+    bind {n = 5 * n} {k = 0} (omega arith) (as-reads (segmentRoles n) (words-read linear (5 * n) (further linear (3 + pointed) p))) λ gs h.
     let few = segments-short linear (ahead linear (3 + pointed) (p .address)) n gs (h .0) in
     dones (few .0, omega arith)
 
@@ -48,7 +50,7 @@ pub block-reads : (linear redefines : Bool) (p : Pointer)
 unfolding blockAt
 block-reads linear redefines p =
     if-reads (null p) (λ _. dones (tt, zero-le)) λ _.
-    bind {n = 3} {k = 75 + (if redefines then 2 else 0)} (omega arith) (words-read linear 3 p) λ head _.
+    bind {n = 3} {k = 75 + (if redefines then 2 else 0)} (omega arith) (as-reads onePointer (words-read linear 3 p)) λ head _.
     weaken (pointed redefines (bit 15 (at head 2))) (rest-reads linear p head _)
   where
     pointed : (r b : Bool) → 75 + (if r && b then 2 else 0) ≤ 75 + (if r then 2 else 0)

@@ -13,16 +13,17 @@ use Rattle.memory.specs.declared.Fault.{Fault}
 use Rattle.memory.specs.declared.Pointer.{Pointer}
 use Rattle.memory.specs.declared.WordsRead.{WordsRead}
 use Rattle.memory.specs.declared.WordsRead.the-variants.{Whole, Refused}
-use Rattle.memory.specs.Reading.{Reading, done, _>>=_, given, refused, runFrom, run}
+use Rattle.memory.specs.Reading.{Reading, done, _>>=_, readAs, onePointer, given, refused, runFrom, run}
 use Rattle.memory.specs.Address.{nothing, pointer, ahead, further, words}
 use Rattle.memory.specs.Answers.{wordsRead}
 use Rattle.memory.proofs.Laws.{bind-given, bind-refused, bind-bind, step-given, step-refused, run-done}
 use Rattle.memory.proofs.WordLaws.{read-whole, read-refused}
+use Rattle.memory.proofs.Roles.{run-as}
 use Rattle.memory.proofs.RunLaws.{ahead-add}
 use Rattle.blocks.specs.declared.SegmentCount.{SegmentCount}
 use Rattle.blocks.specs.declared.PointerRead.{PointerRead}
 use Rattle.blocks.specs.declared.PointerRead.the-variants as Pointed
-use Rattle.blocks.specs.RowBlock.{RowBlock, segmentOf, segmentsAt, segmentsOf, segmentsFrom, restOfBlock}
+use Rattle.blocks.specs.RowBlock.{RowBlock, segmentOf, segmentsAt, segmentsOf, segmentRoles, segmentsFrom, restOfBlock}
 use Rattle.blocks.specs.Answers.{segmentIn, segmentsPast, pointerWords, redefinitionPointer, pointerRead}
 
 segment-prefix : (l : Bool) (a : ℕ) (ys zs : List ℕ) → 5 ≤ length ys → segmentOf l a (ys ++ zs) ≡ segmentOf l a ys
@@ -95,21 +96,21 @@ module _ (w : ℕ) (m : List ℕ) (l : Bool) (p : Pointer) (head : List ℕ) (re
       ≡ runFrom w m (segmentsFrom l p head re w)
   segments-whole link o h len =
       rw (segments-prefix l (q .address) n ys zs (omega arith), o, count, first)
-      (sym (step-given w m (words l (5 * (at head 2 % 16)) (further l w p)) _ (read-whole m l _ (further l w p) r ys asked h (len ∙ five)) ∙ run-done _ _ _))
+      (sym (step-given w m (readAs (segmentRoles (at head 2 % 16)) (words l (5 * (at head 2 % 16)) (further l w p))) _ (run-as _ _ _ _ ∙ read-whole m l _ (further l w p) r ys asked h (len ∙ five)) ∙ run-done _ _ _))
 
   pub segments-refused : (x : Fault) → r ≡ Refused x → refused x ≡ runFrom w m (segmentsFrom l p head re w)
   segments-refused x h =
-      sym (step-refused w m (words l (5 * (at head 2 % 16)) (further l w p)) _ (read-refused m l _ (further l w p) r ys asked h))
+      sym (step-refused w m (readAs (segmentRoles (at head 2 % 16)) (words l (5 * (at head 2 % 16)) (further l w p))) _ (run-as _ _ _ _ ∙ read-refused m l _ (further l w p) r ys asked h))
 
 -- a block's redefinition pointer, and then its segments; the pointer where there is none
 pub rest-of-block : (w : ℕ) (m : List ℕ) (l : Bool) (p : Pointer) (head : List ℕ) (n : ℕ)
     → runFrom w m (restOfBlock l p head n) ≡ runFrom w m (redefinitionPointer l p n >>= λ re. segmentsFrom l p head re (3 + n))
 unfolding restOfBlock redefinitionPointer _>>=_
 rest-of-block w m l p head n =
-    sym (bind-bind w m (words l n (further l 3 p)) (λ re. done (pointer l (ahead l 3 (p .address)) (at re 0) (at re 1))) (λ re. segmentsFrom l p head re (3 + n)))
+    sym (bind-bind w m (readAs onePointer (words l n (further l 3 p))) (λ re. done (pointer l (ahead l 3 (p .address)) (at re 0) (at re 1))) (λ re. segmentsFrom l p head re (3 + n)))
 
 pub no-redefinition : (w : ℕ) (m : List ℕ) (l : Bool) (p : Pointer) → runFrom w m (redefinitionPointer l p 0) ≡ given w nothing
-unfolding redefinitionPointer words _>>=_ runFrom
+unfolding redefinitionPointer words readAs _>>=_ runFrom
 no-redefinition w m l p = ap (given w) (no-pointer l (ahead l 3 (p .address)))
 
 -- .. of the whole block, whose head was read
@@ -117,10 +118,10 @@ module _ (m : List ℕ) (l redefines : Bool) (p : Pointer) (head : List ℕ) (re
     (is : pointed ≡ redefines && bit 15 (at head 2)) (r : PointerRead)
     (e : pointerRead (pointerWords pointed) r ≡ runFrom 3 m (redefinitionPointer l p (pointerWords pointed))) where
   abbrev whole : Reading RowBlock
-  whole = words l 3 p >>= λ ws. restOfBlock l p ws (if redefines && bit 15 (at ws 2) then 2 else 0)
+  whole = readAs onePointer (words l 3 p) >>= λ ws. restOfBlock l p ws (if redefines && bit 15 (at ws 2) then 2 else 0)
 
   by-pointer : run m whole ≡ runFrom 3 m (redefinitionPointer l p (pointerWords pointed) >>= λ re. segmentsFrom l p head re (3 + pointerWords pointed))
-  by-pointer = step-given 0 m (words l 3 p) _ read ∙ rw (sym is) (rest-of-block 3 m l p head (pointerWords pointed))
+  by-pointer = step-given 0 m (readAs onePointer (words l 3 p)) _ (run-as _ _ _ _ ∙ read) ∙ rw (sym is) (rest-of-block 3 m l p head (pointerWords pointed))
 
   pub block-read : (re : Pointer) (w : ℕ) → r ≡ Pointed.Read re → w ≡ 3 + pointerWords pointed
       → runFrom w m (segmentsFrom l p head re w) ≡ run m whole

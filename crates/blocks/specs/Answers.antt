@@ -5,7 +5,7 @@ use mathlib.Core.List.{List}
 use lib.ListN.{drop}
 use Rattle.memory.specs.Word.{if_then_else_, at}
 use Rattle.memory.specs.declared.Pointer.{Pointer}
-use Rattle.memory.specs.Reading.{Reading, done, _>>=_, Outcome, given, refused}
+use Rattle.memory.specs.Reading.{Reading, done, _>>=_, Outcome, given, refused, readAs, onePointer}
 use Rattle.memory.specs.Address.{pointer, ahead, further, words}
 use Rattle.blocks.specs.declared.MainBlock.{MainBlock}
 use Rattle.blocks.specs.declared.RowFormat.{RowFormat}
@@ -44,7 +44,7 @@ pointerWords pointed = if pointed then 2 else 0
 
 unfoldable pub redefinitionPointer : Bool → Pointer → ℕ → Reading Pointer
 redefinitionPointer linear p n = do
-  re ← words linear n (further linear 3 p)
+  re ← readAs onePointer (words linear n (further linear 3 p))
   done (pointer linear (ahead linear 3 (p .address)) (at re 0) (at re 1))
 
 abbrev pub pointerRead : ℕ → PointerRead → Outcome Pointer

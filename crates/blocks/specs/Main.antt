@@ -4,7 +4,7 @@ use mathlib.Core.Bool.{Bool}
 use mathlib.Core.List.{List}
 use Rattle.memory.specs.Word.{bit, high, low, at}
 use Rattle.memory.specs.declared.Pointer.{Pointer}
-use Rattle.memory.specs.Reading.{Reading, done, _>>=_}
+use Rattle.memory.specs.Reading.{Reading, done, _>>=_, readAs, onePointer}
 use Rattle.memory.specs.Address.{pointer, words}
 use Rattle.blocks.specs.declared.MainBlock.{MainBlock}
 
@@ -25,5 +25,5 @@ mainBlock linear a b = record {
 
 unfoldable pub mainBlockAt : Bool → Pointer → Reading MainBlock
 mainBlockAt linear p = do
-  b ← words linear 7 p
+  b ← readAs onePointer (words linear 7 p)
   done (mainBlock linear (p .address) b)

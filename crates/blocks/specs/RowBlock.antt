@@ -5,7 +5,7 @@ use mathlib.Core.List.{List, [], _∷_}
 use lib.ListN.{drop}
 use Rattle.memory.specs.Word.{if_then_else_, bit, high, low, at}
 use Rattle.memory.specs.declared.Pointer.{Pointer}
-use Rattle.memory.specs.Reading.{Reading, done, _>>=_}
+use Rattle.memory.specs.Reading.{Role, First, Second, Other, Reading, done, _>>=_, readAs, onePointer}
 use Rattle.memory.specs.Address.{nothing, pointer, null, ahead, further, words}
 use Rattle.blocks.specs.declared.Segment.{Segment}
 use Rattle.blocks.specs.declared.SegmentCount.{SegmentCount}
@@ -42,10 +42,15 @@ pub record RowBlock : Type 0 where
 abbrev pub noBlock : RowBlock
 noBlock = record { link = nothing; redefinition = nothing; segments = [] }
 
+-- the words of n segments: two pointers and a word, each
+unfoldable pub segmentRoles : ℕ → List Role
+segmentRoles zero = []
+segmentRoles (suc n) = First ∷ Second ∷ First ∷ Second ∷ Other ∷ segmentRoles n
+
 -- the block at p whose first three words are `head`, with its segments from word k on
 abbrev pub segmentsFrom : Bool → Pointer → List ℕ → Pointer → ℕ → Reading RowBlock
 segmentsFrom linear p head redefinition k = do
-  gs ← words linear (5 * (at head 2 % 16)) (further linear k p)
+  gs ← readAs (segmentRoles (at head 2 % 16)) (words linear (5 * (at head 2 % 16)) (further linear k p))
   done (record {
     link = pointer linear (p .address) (at head 0) (at head 1);
     redefinition = redefinition;
@@ -55,12 +60,12 @@ segmentsFrom linear p head redefinition k = do
 -- the rest of the block at p, which has `pointed` words (2 or 0) of a redefinition pointer
 unfoldable pub restOfBlock : Bool → Pointer → List ℕ → ℕ → Reading RowBlock
 restOfBlock linear p head pointed = do
-  re ← words linear pointed (further linear 3 p)
+  re ← readAs onePointer (words linear pointed (further linear 3 p))
   segmentsFrom linear p head (pointer linear (ahead linear 3 (p .address)) (at re 0) (at re 1)) (3 + pointed)
 
 unfoldable pub blockAt : Bool → Bool → Pointer → Reading RowBlock
 blockAt linear redefines p = if null p then done noBlock else do
-  head ← words linear 3 p
+  head ← readAs onePointer (words linear 3 p)
   restOfBlock linear p head (if redefines && bit 15 (at head 2) then 2 else 0)
 
 unfoldable pub rowBlockAt : Bool → Pointer → Reading RowBlock

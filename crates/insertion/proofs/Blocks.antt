@@ -7,11 +7,11 @@ use lib.Dec.{eqb}
 use Rattle.memory.specs.Word.{if_then_else_, bit}
 use Rattle.memory.specs.declared.Pointer.{Pointer}
 use Rattle.memory.specs.Word as W
-use Rattle.memory.specs.Reading.{_>>=_}
+use Rattle.memory.specs.Reading.{_>>=_, onePointer}
 use Rattle.memory.specs.Address.{nothing, pointer, nextWord, ahead}
 use Rattle.blocks.specs.declared.Segment.{Segment}
-use Rattle.blocks.specs.RowBlock.{RowBlock, restOfBlock, blockAt, rowBlockAt}
-use Rattle.insertion.proofs.Near.{Near, dones, bind, Opens, open-bind, at, words-near, FromThird, fromThird, words-open}
+use Rattle.blocks.specs.RowBlock.{RowBlock, segmentRoles, restOfBlock, blockAt, rowBlockAt}
+use Rattle.insertion.proofs.Near.{Near, dones, bind, as-near, Opens, open-bind, as-opens, at, words-near, FromThird, fromThird, words-open}
 
 -- the same block with two links
 pub data BlockAlike (p q : Pointer) : RowBlock → RowBlock → Type 0 where
@@ -22,8 +22,8 @@ module _ (linear : Bool) (a x y : ℕ) where
       → Near (BlockAlike (pointer linear a w₁ w₂) (pointer linear a v₁ v₂)) (restOfBlock linear (at a x) us n) (restOfBlock linear (at a y) vs n)
   unfolding restOfBlock _>>=_
   rest-alike w₁ w₂ v₁ v₂ n us vs (fromThird rest) =
-      bind (words-near linear n (ahead linear 3 a) x y) λ re re′ e.
-      bind (words-near linear (5 * (W.at rest 0 % 16)) (ahead linear (3 + n) a) x y) λ gs gs′ d.
+      bind (as-near onePointer (words-near linear n (ahead linear 3 a) x y)) λ re re′ e.
+      bind (as-near (segmentRoles (W.at rest 0 % 16)) (words-near linear (5 * (W.at rest 0 % 16)) (ahead linear (3 + n) a) x y)) λ gs gs′ d.
       rw (← e, ← d) (dones (blocks _ _))
 
   head-alike : (w₁ w₂ v₁ v₂ : ℕ) (us vs : List ℕ) → FromThird w₁ w₂ v₁ v₂ us vs
@@ -35,7 +35,7 @@ module _ (linear : Bool) (a x y : ℕ) where
       → Opens a (nextWord linear a) (λ w₁ w₂ v₁ v₂. BlockAlike (pointer linear a w₁ w₂) (pointer linear a v₁ v₂))
       (rowBlockAt linear (at a x)) (rowBlockAt linear (at a y))
   unfolding rowBlockAt blockAt
-  block-opens e = rw e (open-bind (words-open linear 1 a x y) head-alike)
+  block-opens e = rw e (open-bind (as-opens (words-open linear 1 a x y)) head-alike)
 
   pub block-null : eqb a 0 ≡ true → Near (BlockAlike nothing nothing) (rowBlockAt linear (at a x)) (rowBlockAt linear (at a y))
   unfolding rowBlockAt blockAt

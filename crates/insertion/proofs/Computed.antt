@@ -9,7 +9,7 @@ use lib.ListN.{length, replicate, take, drop, getElem?}
 use lib.ListN as Words
 use lib.Dec.{eqb}
 use Rattle.memory.specs.Word.{if_then_else_}
-use Rattle.memory.specs.Reading.{_>>=_, each, runFrom, asked}
+use Rattle.memory.specs.Reading.{_>>=_, readAs, each, runFrom, asked}
 use Rattle.memory.specs.Address.{pointer, nextWord, ahead, words}
 use Rattle.settings.specs.declared.Edition.the-variants.{Am8052}
 use Rattle.settings.specs.declared.Interlace.the-variants.{Progressive}
@@ -17,7 +17,7 @@ use Rattle.settings.specs.declared.Settings.{Settings}
 use Rattle.settings.specs.Good.{good, checkSettings}
 use Rattle.settings.specs.Timing.{linesForRows}
 use Rattle.blocks.specs.Main.{mainBlock, mainBlockAt}
-use Rattle.blocks.specs.RowBlock.{segmentOf, segmentsAt, restOfBlock, blockAt, rowBlockAt, windowRowAt, formatOf, redefined}
+use Rattle.blocks.specs.RowBlock.{segmentOf, segmentsAt, segmentRoles, restOfBlock, blockAt, rowBlockAt, windowRowAt, formatOf, redefined}
 use Rattle.windows.specs.Window as W
 use Rattle.state.specs.declared.State.{State}
 use Rattle.state.specs.State as S
@@ -247,5 +247,5 @@ pub computed : (every tests ≡ true)
     × (passes 0xA000 plain 0x10 (old free) topmost ≡ true) × (passes 0 taller 0x50 (old free) lowest ≡ true)
     × (placeOf 0 plain 0x30 (old free) ≡ 2)
     × (effectAt plain (kept free) (getElem? (states 0 plain (kept free)) (placeOf 0 plain 0x30 (old free))) ≡ some empty)
-unfolding settings block screen free keeping setting plain old kept set topmost taller lowest flagged same front seen above below failed fails effectAt window eight redefining looped loopedKept inBlock inBlockKept inLink inLinkKept astray retyped tests _>>=_ each runFrom asked pointer nextWord ahead words good checkSettings linesForRows mainBlock mainBlockAt segmentOf segmentsAt restOfBlock blockAt rowBlockAt windowRowAt formatOf redefined W.windowOf W.windowAt W.firstWindow W.dueWindow S.windowInRange S.inRange invokes sourceNumber windowNumber cell width total allFit boundary edgesFit covered onSide segmentsOn windowRow overlaid nextFields backgroundBlock backgroundRow plan taking put character examine wordCodes codes filled fillByWord fillTo segment segmentsTo rowCells row withCursor rowCall topBlock firstFields windowStart startFrom begin step within rest frame outcomeFor effectCall calledOn states timesFollowed firstFollowed apart allApart rowsElse readElse noRedefinition every wordsFit sameFrom passes
+unfolding settings block screen free keeping setting plain old kept set topmost taller lowest flagged same front seen above below failed fails effectAt window eight redefining looped loopedKept inBlock inBlockKept inLink inLinkKept astray retyped tests _>>=_ each runFrom asked pointer nextWord ahead words readAs good checkSettings linesForRows mainBlock mainBlockAt segmentOf segmentsAt segmentRoles restOfBlock blockAt rowBlockAt windowRowAt formatOf redefined W.windowOf W.windowAt W.firstWindow W.dueWindow S.windowInRange S.inRange invokes sourceNumber windowNumber cell width total allFit boundary edgesFit covered onSide segmentsOn windowRow overlaid nextFields backgroundBlock backgroundRow plan taking put character examine wordCodes codes filled fillByWord fillTo segment segmentsTo rowCells row withCursor rowCall topBlock firstFields windowStart startFrom begin step within rest frame outcomeFor effectCall calledOn states timesFollowed firstFollowed apart allApart rowsElse readElse noRedefinition every wordsFit sameFrom passes
 computed = (refl, refl, refl, refl, refl, refl, refl)

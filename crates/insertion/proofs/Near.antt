@@ -9,7 +9,7 @@ use lib.Dec.{ltb}
 use Rattle.memory.specs.Word.{if_then_else_}
 use Rattle.memory.specs.declared.Fault.{Fault}
 use Rattle.memory.specs.declared.Pointer.{Pointer}
-use Rattle.memory.specs.Reading.{Ask, Reading, done, refuse, ask, _>>=_, checkOf, Outcome, given, refused, runFrom, run, asked}
+use Rattle.memory.specs.Reading.{Role, Ask, Reading, done, refuse, ask, _>>=_, readAs, onePointer, checkOf, Outcome, given, refused, runFrom, run, asked}
 use Rattle.memory.specs.Address.{nextWord, words}
 use Rattle.memory.proofs.Agree.{All, also, SameWord}
 
@@ -32,6 +32,14 @@ module _ {A C D : Type 0} {S : C → D → Type 0} {h : A → Reading C} {k : A 
   bind-same (done a) f = f a
   bind-same (refuse x) f = refuses
   bind-same (ask q g) f = asks refl (λ w. bind-same (g w) f)
+
+-- what a word is read as is not looked at
+pub as-near : {A B : Type 0} {R : A → B → Type 0} (rs : List Role) {p : Reading A} {q : Reading B} → Near R p q → Near R (readAs rs p) (readAs rs q)
+unfolding readAs
+as-near [] h = h
+as-near (r ∷ rs) (dones x) = dones x
+as-near (r ∷ rs) refuses = refuses
+as-near (r ∷ rs) (asks e g) = asks e (λ w. as-near rs (g w))
 
 -- one check, whichever pointer it blames
 pub check-near : (n : ℕ) (p q : Pointer) (b : Bool) → Near (λ _ _. Unit {0}) (checkOf n p b) (checkOf n q b)
@@ -57,6 +65,12 @@ module _ {A B C D : Type 0} {a b : ℕ} {R : ℕ → ℕ → ℕ → ℕ → A �
   unfolding _>>=_
   open-bind (opens {f} {g} e₁ e₂ e₃ e₄ n) c =
       opens {f = λ w v. f w v >>= h} {g = λ w v. g w v >>= k} e₁ e₂ e₃ e₄ (λ w₁ w₂ v₁ v₂. bind (n w₁ w₂ v₁ v₂) (c w₁ w₂ v₁ v₂))
+
+-- what a word is read as is not looked at: the first two are a pointer
+pub as-opens : {A B : Type 0} {a b : ℕ} {R : ℕ → ℕ → ℕ → ℕ → A → B → Type 0} {p : Reading A} {q : Reading B}
+    → Opens a b R p q → Opens a b R (readAs onePointer p) (readAs onePointer q)
+unfolding readAs
+as-opens (opens {f} {g} e₁ e₂ e₃ e₄ n) = opens {f = f} {g = g} e₁ e₂ e₃ e₄ n
 
 -- near with other words in the relation; and near, where both find the same two words
 pub weaken : {A B : Type 0} {R S : A → B → Type 0} {p : Reading A} {q : Reading B} → ((x : A) (y : B) → R x y → S x y) → Near R p q → Near S p q

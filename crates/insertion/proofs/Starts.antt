@@ -22,7 +22,7 @@ use Rattle.state.specs.State.{stateOf}
 use Rattle.start.specs.Top.{registered, enabled, ofWindow, topBlock}
 use Rattle.start.specs.Start.{firstFormat, firstFields, windowStart, mainStart, startFrom}
 use Rattle.insertion.specs.Followed.{mainOf}
-use Rattle.insertion.proofs.Near.{Near, dones, bind-same, Opens, open-bind, FromThird, fromThird, words-open}
+use Rattle.insertion.proofs.Near.{Near, dones, bind-same, Opens, open-bind, as-opens, FromThird, fromThird, words-open}
 use Rattle.insertion.proofs.Rows.{plainFields}
 use Rattle.insertion.proofs.Accepted.{Came, came, came-by, passed}
 
@@ -63,7 +63,7 @@ module _ (latch : ℕ) (σ : Settings) (alone : null (registered (σ .linear) (�
   unfolding startFrom checkSettings topBlock mainBlockAt _>>=_
   start-opens h =
       rw (h .good, h .top)
-      (open-bind (open-bind (open-bind (words-open (σ .linear) 5 (mainOf σ) _ _) (block-alike (σ .linear) (mainOf σ))) λ w₁ w₂ v₁ v₂. scroll-alike)
+      (open-bind (open-bind (open-bind (as-opens (words-open (σ .linear) 5 (mainOf σ) _ _)) (block-alike (σ .linear) (mainOf σ))) λ w₁ w₂ v₁ v₂. scroll-alike)
       λ w₁ w₂ v₁ v₂. state-alike)
 
   pub start-passes : (m : List ℕ) {n : ℕ} {s : State} → run m (startFrom latch σ) ≡ given n s → StartPasses

@@ -47,7 +47,7 @@ as-many m p {n} e = omega (arith, count-from 0 m p e)
 -- ---- one row ----
 
 -- the row call with right buffer and list
-right : (σ : Settings) (m : List ℕ) (s : State) (b list : List ℕ) → eqb (length b) 132 && eqb (length list) 12000 ≡ true
+pub right : (σ : Settings) (m : List ℕ) (s : State) (b list : List ℕ) → eqb (length b) 132 && eqb (length list) 12000 ≡ true
     → rowListed σ m s b list ≡ calledWith (answered σ (s .fields) b (run m (row σ s))) (listAfter m (row σ s) list)
 unfolding rowListed rowCall
 right σ m s b list e = let k = both (eqb (length b) 132) (eqb (length list) 12000) e in rw (k .0, k .1)
@@ -87,7 +87,7 @@ same-row σ m s c (refused x) e = refl
 
 module _ (σ : Settings) (m : List ℕ) (first : ℕ) where
   -- the call is the row drawn alone
-  head : {f : Fields} {above : Effect} {s : State} (c : Call) → isRow c ≡ true → Stands σ m first f above s
+  pub head : {f : Fields} {above : Effect} {s : State} (c : Call) → isRow c ≡ true → Stands σ m first f above s
       → rowListed σ m s (c .buffer) (c .list) ≡ rowAlone σ m f c (apply above first)
   unfolding rowAlone
   head {f} c t (goes {l} h) =

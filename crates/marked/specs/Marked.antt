@@ -7,7 +7,7 @@ use mathlib.Core.List.{List, [], _∷_, _++_}
 use lib.ListN.{replicate, take, drop}
 use lib.Dec.{eqb}
 use lib.Count.{ones, onesIn}
-use Rattle.memory.specs.Reading.{_>>=_, each, Outcome, given, refused, runFrom, run}
+use Rattle.memory.specs.Reading.{_>>=_, readAs, each, Outcome, given, refused, runFrom, run}
 use Rattle.memory.specs.Address.{to, pointer, nextWord, ahead, words}
 use Rattle.settings.specs.declared.Edition.{Edition}
 use Rattle.settings.specs.declared.Edition.the-variants.{Am8052, Z8052}
@@ -24,7 +24,7 @@ use Rattle.settings.specs.Timing.{clocks, halfLines, timing, linesIn, linesForR
 use Rattle.windows.specs.declared.WindowInHand.{WindowInHand}
 use Rattle.windows.specs.declared.WindowInHand.the-variants.{Absent, Present}
 use Rattle.blocks.specs.Main.{mainBlock, mainBlockAt}
-use Rattle.blocks.specs.RowBlock.{segmentOf, segmentsAt, restOfBlock, blockAt, rowBlockAt, windowRowAt, formatOf, redefined}
+use Rattle.blocks.specs.RowBlock.{segmentOf, segmentsAt, segmentRoles, restOfBlock, blockAt, rowBlockAt, windowRowAt, formatOf, redefined}
 use Rattle.windows.specs.Window as W
 use Rattle.state.specs.declared.Fields.{Fields}
 use Rattle.state.specs.declared.State.{State}
@@ -338,5 +338,5 @@ tests =
     ∷ []
 
 pub marked : every tests ≡ true
-unfolding same every shownAs shown cellsFrom partShown counts times rises settings sheetS memoryS stateAt at stateOfStart wordsOfStart stateAfter buffer firstRow clearPart setPart row0 row1 oddRow padded page one two plain listless timed video nine ten twelve numbered windowOn windowRow3 inHand nextShown tests _>>=_ each runFrom pointer nextWord ahead words good checkSettings timing linesForRows clocks halved invokingCodes sheetOf sheetCall ones onesIn mainBlock mainBlockAt segmentOf segmentsAt restOfBlock blockAt rowBlockAt windowRowAt formatOf redefined W.windowOf W.windowAt W.firstWindow W.dueWindow S.windowInRange S.inRange invokes sourceNumber windowNumber cell width total allFit boundary edgesFit covered onSide segmentsOn windowRow overlaid nextFields backgroundBlock backgroundRow plan taking put character examine wordCodes codes filled fillByWord fillTo segment segmentsTo rowCells row withCursor rowCall topBlock firstFields windowStart startFrom startCall begin step within rest frame outcomeFor effectCall
+unfolding same every shownAs shown cellsFrom partShown counts times rises settings sheetS memoryS stateAt at stateOfStart wordsOfStart stateAfter buffer firstRow clearPart setPart row0 row1 oddRow padded page one two plain listless timed video nine ten twelve numbered windowOn windowRow3 inHand nextShown tests readAs _>>=_ each runFrom pointer nextWord ahead words good checkSettings timing linesForRows clocks halved invokingCodes sheetOf sheetCall ones onesIn mainBlock mainBlockAt segmentOf segmentsAt segmentRoles restOfBlock blockAt rowBlockAt windowRowAt formatOf redefined W.windowOf W.windowAt W.firstWindow W.dueWindow S.windowInRange S.inRange invokes sourceNumber windowNumber cell width total allFit boundary edgesFit covered onSide segmentsOn windowRow overlaid nextFields backgroundBlock backgroundRow plan taking put character examine wordCodes codes filled fillByWord fillTo segment segmentsTo rowCells row withCursor rowCall topBlock firstFields windowStart startFrom startCall begin step within rest frame outcomeFor effectCall
 marked = refl

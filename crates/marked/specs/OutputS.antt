@@ -1,11 +1,11 @@
 -- Document 01, sheet S: its "Whole output" from its script's bytes, and two outputs that a refusal ends, computed by the definitions.
 use mathlib.Core.Path.{_≡_, refl}
 use mathlib.Core.List.{[], _∷_, _++_}
-use Rattle.memory.specs.Reading.{_>>=_, each, runFrom}
+use Rattle.memory.specs.Reading.{_>>=_, readAs, each, runFrom}
 use Rattle.memory.specs.Address.{pointer, nextWord, ahead, words}
 use Rattle.settings.specs.Good.{good, checkSettings}
 use Rattle.blocks.specs.Main.{mainBlock, mainBlockAt}
-use Rattle.blocks.specs.RowBlock.{segmentOf, segmentsAt, restOfBlock, blockAt, rowBlockAt, windowRowAt, formatOf, redefined}
+use Rattle.blocks.specs.RowBlock.{segmentOf, segmentsAt, segmentRoles, restOfBlock, blockAt, rowBlockAt, windowRowAt, formatOf, redefined}
 use Rattle.windows.specs.Window as W
 use Rattle.state.specs.State as S
 use Rattle.codes.specs.Attribute.{invokes, sourceNumber, windowNumber, cell}
@@ -37,5 +37,5 @@ pub output-s :
     × (output recordsS ≡ text "refused script at 144\n")
     × (output (recordsS ++ wordRecords 0x22 (0x8000 ∷ []) ++ (0 ∷ []))
     ≡ text "row 0 lines 8 attr 000 words 12\n00100041 00500042 00100281 00000220\n" ++ text "refused 7 row 1 at 008000 from 000020\n")
-unfolding _>>=_ each runFrom pointer nextWord ahead words good checkSettings mainBlock mainBlockAt segmentOf segmentsAt restOfBlock blockAt rowBlockAt windowRowAt formatOf redefined W.windowOf W.windowAt W.firstWindow W.dueWindow S.windowInRange S.inRange invokes sourceNumber windowNumber cell width total allFit boundary edgesFit covered onSide segmentsOn windowRow overlaid nextFields backgroundBlock backgroundRow plan taking put character examine wordCodes codes filled fillByWord fillTo segment segmentsTo rowCells row withCursor rowCall topBlock firstFields windowStart startFrom begin step within rest frame linesForRows switched registered accepted settingsAfter memoryAfter unset numberFrom records script register wordRecords recordsS digits fewest rowLine moreCells cellLine endLine refusalLine scriptLine rowsText frameText output
+unfolding readAs _>>=_ each runFrom pointer nextWord ahead words good checkSettings mainBlock mainBlockAt segmentOf segmentsAt segmentRoles restOfBlock blockAt rowBlockAt windowRowAt formatOf redefined W.windowOf W.windowAt W.firstWindow W.dueWindow S.windowInRange S.inRange invokes sourceNumber windowNumber cell width total allFit boundary edgesFit covered onSide segmentsOn windowRow overlaid nextFields backgroundBlock backgroundRow plan taking put character examine wordCodes codes filled fillByWord fillTo segment segmentsTo rowCells row withCursor rowCall topBlock firstFields windowStart startFrom begin step within rest frame linesForRows switched registered accepted settingsAfter memoryAfter unset numberFrom records script register wordRecords recordsS digits fewest rowLine moreCells cellLine endLine refusalLine scriptLine rowsText frameText output
 output-s = (refl, refl, refl)

@@ -5,5 +5,6 @@ pub mod Step
 pub mod RunLaws
 pub mod Agree
 pub mod ReadBounds
+pub mod Roles
 pub mod Related
 pub mod Gives

@@ -12,11 +12,18 @@ use Rattle.memory.specs.declared.Pointer.{Pointer}
 use Rattle.memory.specs.declared.Refusal.{Refusal}
 use Rattle.memory.specs.Word.{if_then_else_}
 
+-- what a word is read as: 02 tells a pointer's first word and its second from "anything but that word of a pointer"
+pub data Role : Type 0 where
+  First : Role
+  Second : Role
+  Other : Role
+
 -- the question that a reading asks: the word at an address. 02: "Every read of memory should carry the address where the pointer in use
 -- begins"
 pub record Ask : Type 0 where
   pub address : ℕ
   pub from : ℕ
+  pub role : Role
 
 -- a refusal on its way up: that of a check has address 0. Where a pointer is to blame for it (02, mending), it has where that begins
 abbrev pub blaming : ℕ → Pointer → Fault
@@ -35,7 +42,7 @@ pub data Reading (A : Type 0) : Type 0 where
 
 -- the word that a pointer in use comes to
 abbrev pub asking : Pointer → Ask
-asking p = record { address = p .address; from = p .from }
+asking p = record { address = p .address; from = p .from; role = Other }
 
 abbrev pub word : Pointer → Reading ℕ
 word p = ask (asking p) done
@@ -49,6 +56,20 @@ ask q f >>= k = ask q (λ w. f w >>= k)
 
 abbrev pub _>>_ : {A B : Type 0} → Reading A → Reading B → Reading B
 p >> q = p >>= λ _. q
+
+-- a reading whose first words are read in these roles: count, addresses and refusals stay (`Roles`)
+abbrev pub inRole : Role → Ask → Ask
+inRole r q = record { address = q .address; from = q .from; role = r }
+
+unfoldable pub readAs : {A : Type 0} → List Role → Reading A → Reading A
+readAs [] p = p
+readAs (r ∷ rs) (done a) = done a
+readAs (r ∷ rs) (refuse x) = refuse x
+readAs (r ∷ rs) (ask q f) = ask (inRole r q) (λ w. readAs rs (f w))
+
+-- words of which the first two are a pointer
+abbrev pub onePointer : List Role
+onePointer = First ∷ Second ∷ []
 
 -- refusal n, at address 0, unless the test holds: the pointer that led to what is tested is to blame
 abbrev pub checkOf : ℕ → Pointer → Bool → Reading (Unit {0})

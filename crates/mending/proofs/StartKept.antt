@@ -10,9 +10,10 @@ use lib.Dec.{ltb}
 use Rattle.memory.specs.declared.Fault.{Fault}
 use Rattle.memory.specs.declared.Pointer.{Pointer}
 use Rattle.memory.specs.Word.{if_then_else_, bit, at}
-use Rattle.memory.specs.Reading.{Reading, done, missing, _>>=_, _>>_, fault, check, Outcome, given, refused, runFrom, run}
+use Rattle.memory.specs.Reading.{Reading, done, missing, readAs, onePointer, _>>=_, _>>_, fault, check, Outcome, given, refused, runFrom, run}
 use Rattle.memory.specs.Address.{null, nextWord, onward, words}
 use Rattle.memory.proofs.Laws.{bind-given, bind-refused, check-passed, check-failed, run-done}
+use Rattle.memory.proofs.Roles.{run-as}
 use Rattle.settings.specs.declared.PointerWords.{PointerWords}
 use Rattle.settings.specs.declared.Settings.{Settings}
 use Rattle.settings.specs.declared.Interlace.{Interlace}
@@ -115,14 +116,15 @@ module _ (linear : Bool) (top : PointerWords) where
 
   top-missed : (m : List ℕ) → not (null p) ≡ true → {x : Fault} → run m (words linear 7 p) ≡ refused x → Given (run m (topBlock linear top)) → ⊥
   unfolding topBlock mainBlockAt
-  top-missed m t e h = given-not h (check-passed 0 m 6 (not (null p)) _ t ∙ bind-refused 0 m (mainBlockAt linear p) _ (bind-refused 0 m (words linear 7 p) _ e))
+  top-missed m t e h = given-not h (check-passed 0 m 6 (not (null p)) _ t
+      ∙ bind-refused 0 m (mainBlockAt linear p) _ (bind-refused 0 m (readAs onePointer (words linear 7 p)) _ (run-as _ _ _ _ ∙ e)))
 
   top-read : (m : List ℕ) → not (null p) ≡ true → {i : ℕ} {ws : List ℕ} → run m (words linear 7 p) ≡ given i ws
       → run m (topBlock linear top) ≡ runFrom i m (check 14 (passes (at ws 4)) >> done (mainBlock linear (p .address) ws))
   unfolding topBlock mainBlockAt mainBlock
   top-read m t {i} {ws} e =
       check-passed 0 m 6 (not (null p)) _ t
-      ∙ bind-given 0 m (mainBlockAt linear p) _ (bind-given 0 m (words linear 7 p) _ e ∙ run-done i m (mainBlock linear (p .address) ws))
+      ∙ bind-given 0 m (mainBlockAt linear p) _ (bind-given 0 m (readAs onePointer (words linear 7 p)) _ (run-as _ _ _ _ ∙ e) ∙ run-done i m (mainBlock linear (p .address) ws))
 
   top-kept : (m m₁ : List ℕ) → Less m m₁ → Given (run m (topBlock linear top)) → Given (run m₁ (topBlock linear top))
   top-kept m m₁ less h = by-null (not (null p)) refl

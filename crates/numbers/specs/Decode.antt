@@ -8,9 +8,8 @@ use Rattle.memory.specs.Word.{if_then_else_, at, low}
 use Rattle.memory.specs.declared.Pointer.{Pointer}
 use Rattle.settings.specs.declared.Edition.{Edition}
 use Rattle.settings.specs.declared.Edition.the-variants.{Am8052, Z8052}
-use Rattle.settings.specs.declared.Interlace.{Interlace}
-use Rattle.settings.specs.declared.Interlace.the-variants.{Progressive, RepeatField, Video}
 use Rattle.settings.specs.declared.Settings.{Settings}
+use Rattle.settings.specs.Good.{interlaceOf}
 use Rattle.blocks.specs.declared.Cursor.{Cursor}
 use Rattle.blocks.specs.declared.FillMode.{FillMode}
 use Rattle.blocks.specs.declared.RowFormat.{RowFormat}
@@ -28,10 +27,6 @@ use Rattle.numbers.specs.declared.decode.StateIn.the-variants as State-i
 -- 0 is no, 1 is yes
 abbrev pub yes : ℕ → Bool
 yes n = eqb n 1
-
--- "interlace 0 none 1 RFI 2 IV"
-abbrev pub interlaceOf : ℕ → Interlace
-interlaceOf n = if eqb n 0 then Progressive else (if eqb n 1 then RepeatField else Video)
 
 -- edition 0 Am8052 1 Z8052
 abbrev pub editionOf : ℕ → Edition

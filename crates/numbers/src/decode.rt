@@ -4,7 +4,6 @@ use blocks::FillMode;
 use blocks::RowFormat;
 use memory::Pointer;
 use settings::Edition;
-use settings::Interlace;
 use settings::PointerWords;
 use settings::Settings;
 use state::Fields;
@@ -17,7 +16,7 @@ ghost use Prim.Native.Nat.{_%_};
 ghost use lib.ListN.{length};
 ghost use Rattle.memory.specs.Word.{at, low};
 ghost use Rattle.numbers.specs.Places.{within};
-ghost use Rattle.numbers.specs.Decode.{interlaceOf, editionOf, held, modesFit, htdAt, settingsAt, settingsIn, formatFits, windowFits, stateFits, linesAt, formatAt, heldAt, windowAt, fieldsAt, stateAt, unjudgedFit, isState, stateIn};
+ghost use Rattle.numbers.specs.Decode.{editionOf, held, modesFit, htdAt, settingsAt, settingsIn, formatFits, windowFits, stateFits, linesAt, formatAt, heldAt, windowAt, fieldsAt, stateAt, unjudgedFit, isState, stateIn};
 
 // Settings, or that the numbers are none: too few or too many.
 pub enum SettingsIn {
@@ -45,7 +44,7 @@ fn settings_at(n: &[u32]) -> Settings
     requires { ⌜ length (now n) ≡ 18 ⌝ }
     ensures { λ r. ⌜ r ≡ settingsAt (now (n .entry)) ⌝ }
 {
-    let interlace = interlace_of(n[2]);
+    let interlace = settings::interlace_of(n[2]);
     let edition = edition_of(n[17]);
     let vsw = held(n[9]);
     let vsd = held(n[10]);
@@ -114,19 +113,6 @@ fn held(number: u32) -> u16
     ensures { λ r. ⌜ r ≡ held number ⌝ }
 {
     if number < 65535 { number as u16 } else { 65535 }
-}
-
-fn interlace_of(number: u32) -> Interlace
-    ensures { λ r. ⌜ r ≡ interlaceOf number ⌝ }
-{
-    if number == 0 {
-        return Interlace::Progressive;
-    }
-    if number == 1 {
-        Interlace::RepeatField
-    } else {
-        Interlace::Video
-    }
 }
 
 fn edition_of(number: u32) -> Edition

@@ -16,7 +16,7 @@ use Rattle.state.proofs.StateLaws.{placed, lines-within, has-line}
 use Rattle.layout.specs.Layout.{total, edgesFit}
 use Rattle.layout.proofs.OverlayBounds.{Inside, Shows, overlaid-reads}
 use Rattle.background.proofs.BackgroundBounds.{background-reads}
-use Rattle.plan.specs.Plan.{Plan, nextFields, plan}
+use Rattle.plan.specs.Plan.{Plan, nextFields, plan, fromState}
 
 -- what the cells need of a plan, and how the next row stands: one number further, within 4095, with fewer lines left, the same fill, and
 -- the window in hand that this row shows, if it shows one
@@ -33,10 +33,10 @@ pub record Sound (hidden : Bool) (f : Fields) (p : Plan) : Type 0 where
   pub after : After (f .window) (p .next .window)
   pub shows : Shows (f .row) (p .next .window) (p .overlay)
 
-pub plan-reads : (σ : Settings) (f : Fields) → Reads (Sound (σ .hidden) f) 167 (plan σ f)
-unfolding plan checkSettings nextFields
-plan-reads σ f =
-    bind {n = 0} {k = 167} (omega arith) (check-reads 2 (good σ)) λ _ _.
+-- below its checks on the settings
+pub state-reads : (σ : Settings) (f : Fields) → Reads (Sound (σ .hidden) f) 167 (fromState σ f)
+unfolding nextFields
+state-reads σ f =
     bind {n = 0} {k = 167} (omega arith) (check-reads 3 (inRange f)) λ _ h₃.
     bind {n = 0} {k = 167} (omega arith) (check-reads 4 (ltb 0 (f .left))) λ _ h₄.
     bind {n = 6} {k = 161} (omega arith) (due-reads (σ .linear) (f .row) (f .window) (placed f h₃)) λ w hw.
@@ -58,3 +58,7 @@ plan-reads σ f =
       after = after-trans (hw .1) (ho .after);
       shows = ho .shows;
     })
+
+pub plan-reads : (σ : Settings) (f : Fields) → Reads (Sound (σ .hidden) f) 167 (plan σ f)
+unfolding plan checkSettings
+plan-reads σ f = bind {n = 0} {k = 167} (omega arith) (check-reads 2 (good σ)) λ _ _. state-reads σ f

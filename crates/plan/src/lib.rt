@@ -55,7 +55,7 @@ pub fn plan_row(
 }
 
 // The plan of a row whose settings are checked: checks 3 and 4 on the state.
-fn plan_state(
+pub fn plan_state(
     mem: &[u16],
     settings: Settings,
     fields: Fields,

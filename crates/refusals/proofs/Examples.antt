@@ -5,7 +5,7 @@ use mathlib.Core.Bool.{true, false}
 use mathlib.Core.List.{List, [], _∷_, _++_}
 use lib.IntN.{pos}
 use lib.ListN.{replicate}
-use Rattle.memory.specs.Reading.{_>>=_, each, runFrom}
+use Rattle.memory.specs.Reading.{_>>=_, readAs, each, runFrom}
 use Rattle.memory.specs.Address.{to, pointer, nextWord, ahead, words}
 use Rattle.settings.specs.declared.Edition.the-variants.{Am8052}
 use Rattle.settings.specs.declared.Interlace.the-variants.{Progressive}
@@ -15,7 +15,7 @@ use Rattle.settings.specs.Sheet.{sheetCall}
 use Rattle.windows.specs.declared.WindowInHand.{WindowInHand}
 use Rattle.windows.specs.declared.WindowInHand.the-variants.{Absent, Present}
 use Rattle.blocks.specs.Main.{mainBlock, mainBlockAt}
-use Rattle.blocks.specs.RowBlock.{segmentOf, segmentsAt, restOfBlock, blockAt, rowBlockAt, windowRowAt, redefined}
+use Rattle.blocks.specs.RowBlock.{segmentOf, segmentsAt, segmentRoles, restOfBlock, blockAt, rowBlockAt, windowRowAt, redefined}
 use Rattle.windows.specs.Window as W
 use Rattle.state.specs.declared.Fields.{Fields}
 use Rattle.state.specs.State as S
@@ -128,7 +128,7 @@ scrolling = 0 ∷ 0 ∷ 0 ∷ 0 ∷ 0 ∷ 0x5000 ∷ 0 ∷ 0 ∷ []
 -- VAL 0; TOP null; no word; M4 with enable and window; a window whose first row, 1, is past its last, 0
 pub starts : ofStart (startCall 0 bad []) ++ ofStart (startCall 0 (settings 0 0 16) []) ++ ofStart (startCall 0 plain [])
     ++ ofStart (startCall 0 plain scrolling) ++ ofStart (startCall 0 (settings 2 2 16) (0 ∷ 0 ∷ 0 ∷ 0 ∷ 0 ∷ 0x100 ∷ 0 ∷ 0 ∷ [])) ≡ startNumbers
-unfolding settings bad plain good checkSettings pointer nextWord ahead words _>>=_ runFrom mainBlock mainBlockAt W.windowOf W.windowAt W.firstWindow topBlock firstFields windowStart startFrom startCall scrolling
+unfolding settings bad plain good checkSettings pointer nextWord ahead words readAs _>>=_ runFrom mainBlock mainBlockAt W.windowOf W.windowAt W.firstWindow topBlock firstFields windowStart startFrom startCall scrolling
 starts = refl
 
 -- a scroll of this phase
@@ -139,16 +139,16 @@ scroll phase = record { shift = pos 0; phase = phase; direction = 0 }
 pub shifts : ofShift (Shift.shiftCall bad [] (plain .top) (scroll 0)) ++ ofShift (Shift.shiftCall plain [] (plain .top) (scroll 8))
     ++ ofShift (Shift.shiftCall (settings 0 0 16) [] (plain .top) (scroll 0)) ++ ofShift (Shift.shiftCall plain [] (plain .top) (scroll 0))
     ++ ofShift (Shift.shiftCall plain scrolling (plain .top) (scroll 0)) ≡ shiftNumbers
-unfolding settings bad plain scroll good checkSettings pointer nextWord words _>>=_ runFrom mainBlock mainBlockAt topBlock scrolling Shift.inRange Shift.shiftBy Shift.shift Shift.shiftCall
+unfolding settings bad plain scroll good checkSettings pointer nextWord words readAs _>>=_ runFrom mainBlock mainBlockAt topBlock scrolling Shift.inRange Shift.shiftBy Shift.shift Shift.shiftCall
 shifts = refl
 
 -- 131 cells, then the calls above
 pub rows : ofRow (rowCall plain [] (S.stateOf 0 (fields 1 Absent)) (replicate 131 0) .answer) ++ rowsOf calls ≡ rowNumbers
-unfolding settings bad plain fields window block call calls rowsOf good checkSettings pointer nextWord ahead words _>>=_ each runFrom segmentOf segmentsAt restOfBlock blockAt rowBlockAt windowRowAt redefined W.windowOf W.windowAt W.dueWindow S.windowInRange S.inRange width total allFit boundary edgesFit windowRow overlaid nextFields backgroundBlock backgroundRow plan codes fillByWord fillTo segment segmentsTo rowCells row rowCall
+unfolding settings bad plain fields window block call calls rowsOf good checkSettings pointer nextWord ahead words readAs _>>=_ each runFrom segmentOf segmentsAt segmentRoles restOfBlock blockAt rowBlockAt windowRowAt redefined W.windowOf W.windowAt W.dueWindow S.windowInRange S.inRange width total allFit boundary edgesFit windowRow overlaid nextFields backgroundBlock backgroundRow plan codes fillByWord fillTo segment segmentsTo rowCells row rowCall
 rows = refl
 
 pub effects : (clearOf calls ≡ effectNumbers) × (setOf calls ≡ effectNumbers)
-unfolding settings bad plain fields window block call calls clearOf setOf good checkSettings pointer nextWord ahead words _>>=_ each runFrom segmentOf segmentsAt restOfBlock blockAt rowBlockAt windowRowAt redefined W.windowOf W.windowAt W.dueWindow S.windowInRange S.inRange width total allFit boundary edgesFit windowRow overlaid nextFields backgroundBlock backgroundRow plan codes fillByWord fillTo segment segmentsTo rowCells row outcomeFor effectCall
+unfolding settings bad plain fields window block call calls clearOf setOf good checkSettings pointer nextWord ahead words readAs _>>=_ each runFrom segmentOf segmentsAt segmentRoles restOfBlock blockAt rowBlockAt windowRowAt redefined W.windowOf W.windowAt W.dueWindow S.windowInRange S.inRange width total allFit boundary edgesFit windowRow overlaid nextFields backgroundBlock backgroundRow plan codes fillByWord fillTo segment segmentsTo rowCells row outcomeFor effectCall
 effects = (refl, refl)
 
 -- "5 withdrawn, its number unused"

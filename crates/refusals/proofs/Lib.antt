@@ -2,3 +2,4 @@ pub mod Refuses
 pub mod Told
 pub mod ToldListed
 pub mod Examples
+pub mod ToldTexts

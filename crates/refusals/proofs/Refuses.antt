@@ -8,7 +8,7 @@ use lib.Dec.{ltb}
 use Rattle.memory.specs.declared.Fault.{Fault}
 use Rattle.memory.specs.declared.Pointer.{Pointer}
 use Rattle.memory.specs.Word.{if_then_else_}
-use Rattle.memory.specs.Reading.{Ask, Reading, done, refuse, ask, _>>=_, check, checkOf, each, Outcome, given, refused, runFrom}
+use Rattle.memory.specs.Reading.{Role, Ask, Reading, done, refuse, ask, _>>=_, readAs, check, checkOf, each, Outcome, given, refused, runFrom}
 use Rattle.memory.specs.Address.{onward, words}
 use Rattle.memory.proofs.ReadBounds.{if-cases}
 use Rattle.refusals.specs.Refusals.{has}
@@ -51,6 +51,14 @@ pub words-refuse : {ns : List ℕ} (linear : Bool) (k : ℕ) (p : Pointer) → R
 unfolding words _>>=_
 words-refuse linear zero p = dones
 words-refuse linear (suc k) p = asks λ w. bind (words-refuse linear k (onward linear p)) λ ws. dones
+
+-- what a word is read as adds none
+pub as-refuses : {A : Type 0} {ns : List ℕ} (rs : List Role) {p : Reading A} → Refuses ns p → Refuses ns (readAs rs p)
+unfolding readAs
+as-refuses [] h = h
+as-refuses (r ∷ rs) dones = dones
+as-refuses (r ∷ rs) (refuses e) = refuses e
+as-refuses (r ∷ rs) (asks g) = asks λ w. as-refuses rs (g w)
 
 -- what such a reading comes to: a missing word adds 7
 pub data Told {A : Type 0} (ns : List ℕ) : Outcome A → Type 0 where

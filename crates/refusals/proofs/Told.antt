@@ -8,7 +8,7 @@ use lib.ListN.{length}
 use lib.Dec.{ltb, leb, eqb}
 use borrow.Author.Tests.{ne-eqb}
 use Rattle.memory.specs.declared.Pointer.{Pointer}
-use Rattle.memory.specs.Reading.{_>>=_, Outcome}
+use Rattle.memory.specs.Reading.{_>>=_, onePointer, Outcome}
 use Rattle.memory.specs.Address.{null, onward}
 use Rattle.memory.proofs.ReadBounds.{if-cases, both}
 use Rattle.settings.specs.declared.PointerWords.{PointerWords}
@@ -23,8 +23,8 @@ use Rattle.blocks.specs.declared.Segment.{Segment}
 use Rattle.windows.specs.declared.WindowInHand.{WindowInHand}
 use Rattle.windows.specs.declared.WindowInHand.the-variants.{Absent, Present}
 use Rattle.blocks.specs.Main.{mainBlockAt}
-use Rattle.blocks.specs.RowBlock.{restOfBlock, blockAt, rowBlockAt, windowRowAt, redefined}
-use Rattle.windows.specs.Window.{inOrder, windowOf, windowAt, firstWindow, dueWindow}
+use Rattle.blocks.specs.RowBlock.{segmentRoles, restOfBlock, blockAt, rowBlockAt, windowRowAt, redefined}
+use Rattle.windows.specs.Window.{inOrder, windowOf, twoPointers, windowAt, firstWindow, dueWindow}
 use Rattle.state.specs.declared.Fields.{Fields}
 use Rattle.state.specs.declared.State.{State}
 use Rattle.state.specs.State.{stateOf, inRange}
@@ -47,21 +47,21 @@ use Rattle.scroll.specs.Scroll as Shift
 use Rattle.joining.specs.declared.Part.{Part}
 use Rattle.effect.specs.Effect.{partOf, latchWith, outcomeFor, effectCall}
 use Rattle.refusals.specs.Refusals.{sheetNumbers, startNumbers, shiftNumbers, effectNumbers, rowNumbers, ofSheet, ofStart, ofShift, ofRow, ofPart, ofEffect, has, within}
-use Rattle.refusals.proofs.Refuses.{Refuses, dones, refuses, asks, bind, check-then, check-of-then, if-refuses, each-refuses, words-refuse, Told, given-told, refused-told, run-told}
+use Rattle.refusals.proofs.Refuses.{Refuses, dones, refuses, asks, bind, check-then, check-of-then, if-refuses, each-refuses, words-refuse, as-refuses, Told, given-told, refused-told, run-told}
 
 -- blocks
 module _ {ns : List ℕ} where
   main-refuses : (linear : Bool) (p : Pointer) → Refuses ns (mainBlockAt linear p)
   unfolding mainBlockAt
-  main-refuses linear p = bind (words-refuse linear 7 p) λ b. dones
+  main-refuses linear p = bind (as-refuses onePointer (words-refuse linear 7 p)) λ b. dones
 
   block-refuses : (linear redefines : Bool) (p : Pointer) → Refuses ns (blockAt linear redefines p)
   unfolding blockAt restOfBlock
   block-refuses linear redefines p =
       if-refuses (null p) dones
-      (bind (words-refuse linear 3 p) λ head.
-      bind (words-refuse linear _ _) λ re.
-      bind (words-refuse linear _ _) λ gs. dones)
+      (bind (as-refuses onePointer (words-refuse linear 3 p)) λ head.
+      bind (as-refuses onePointer (words-refuse linear _ _)) λ re.
+      bind (as-refuses (segmentRoles _) (words-refuse linear _ _)) λ gs. dones)
 
   redefined-refuses : (linear : Bool) (p : Pointer) (t : RowFormat) → Refuses ns (redefined linear p t)
   unfolding redefined
@@ -70,7 +70,7 @@ module _ {ns : List ℕ} where
   window-refuses : has 8 ns ≡ true → (linear : Bool) (number least : ℕ) (p : Pointer) → Refuses ns (windowAt linear number least p)
   unfolding windowAt
   window-refuses h linear number least p =
-      if-refuses (null p) dones (bind (words-refuse linear 6 p) λ b.
+      if-refuses (null p) dones (bind (as-refuses twoPointers (words-refuse linear 6 p)) λ b.
       check-of-then 8 p (inOrder (windowOf linear number (p .address) b .block) && leb least (windowOf linear number (p .address) b .block .top)) h λ _ _. dones)
 
   due-refuses : has 8 ns ≡ true → (linear : Bool) (row : ℕ) (w : WindowInHand) → Refuses ns (dueWindow linear row w)

@@ -13,6 +13,12 @@ use Rattle.scroll.specs.declared.ShiftAnswer.{ShiftAnswer}
 use Rattle.scroll.specs.declared.ShiftAnswer.the-variants as Shift
 use Rattle.writer.specs.declared.WriteAnswer.{WriteAnswer}
 use Rattle.writer.specs.declared.WriteAnswer.the-variants as Write
+use Rattle.bus.specs.declared.BusAnswer.{BusAnswer}
+use Rattle.bus.specs.declared.BusAnswer.the-variants as Bus
+use Rattle.mail.specs.declared.Written.{Written}
+use Rattle.mail.specs.declared.Written.the-variants as Text
+use Rattle.mail_reader.specs.declared.ReadAnswer.{ReadAnswer}
+use Rattle.mail_reader.specs.declared.ReadAnswer.the-variants as Read
 use Rattle.joining.specs.declared.Part.{Part}
 use Rattle.joining.specs.declared.Part.the-variants.{Keep, Set, Refuse}
 use Rattle.effect.specs.declared.EffectAnswer.{EffectAnswer}
@@ -50,6 +56,18 @@ rowListedNumbers = 1 ∷ 25 ∷ effectNumbers
 abbrev pub writerNumbers : List ℕ
 writerNumbers = 16 ∷ 15 ∷ []
 
+-- 02, of a bus report: "20, burst count 0; 21, a total that would not fit, totals unchanged"
+abbrev pub busNumbers : List ℕ
+busNumbers = 20 ∷ 21 ∷ []
+
+-- 02, of the calls on a row's text, of which the writer has a row and settings: "1 and 2; 24, text not of this form ..; then 23, buffer too
+-- short, untouched"
+abbrev pub writeMailNumbers : List ℕ
+writeMailNumbers = 1 ∷ 2 ∷ 23 ∷ []
+
+abbrev pub readMailNumbers : List ℕ
+readMailNumbers = 24 ∷ 23 ∷ []
+
 -- the number that an answer has, where it is a refusal; an effect's parts have one each
 abbrev pub ofSheet : SheetAnswer → List ℕ
 ofSheet (Sheet.Given s) = []
@@ -70,6 +88,18 @@ ofRow (Row.Refused r) = r .number ∷ []
 abbrev pub ofWrite : WriteAnswer → List ℕ
 ofWrite Write.Written = []
 ofWrite (Write.Refused r) = r .number ∷ []
+
+abbrev pub ofBus : BusAnswer → List ℕ
+ofBus (Bus.Counted f) = []
+ofBus (Bus.Refused r) = r .number ∷ []
+
+abbrev pub ofWritten : Written → List ℕ
+ofWritten (Text.Text n) = []
+ofWritten (Text.Refused r) = r .number ∷ []
+
+abbrev pub ofRead : ReadAnswer → List ℕ
+ofRead (Read.Read n) = []
+ofRead (Read.Refused r) = r .number ∷ []
 
 abbrev pub ofPart : Part → List ℕ
 ofPart Keep = []

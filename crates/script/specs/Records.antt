@@ -6,9 +6,8 @@ use mathlib.Core.List.{List}
 use lib.ListN.{set}
 use lib.Dec.{ltb, leb, eqb}
 use Rattle.memory.specs.Word.{if_then_else_, bit}
-use Rattle.settings.specs.declared.Interlace.{Interlace}
-use Rattle.settings.specs.declared.Interlace.the-variants.{Progressive, RepeatField, Video}
 use Rattle.settings.specs.declared.Settings.{Settings}
+use Rattle.settings.specs.Good.{interlaceOf}
 
 -- a choice by the kind of a record that has a body: 1, 2 or 3
 abbrev pub byKind : {A : Type 0} → ℕ → A → A → A → A
@@ -28,9 +27,6 @@ value body = body % 65536
 -- "bit 0 linear, 1 DH, 3..2 interlace 0 none 1 RFI 2 IV, 4 cursor"
 abbrev pub interlaceBits : ℕ → ℕ
 interlaceBits switches = switches / 4 % 4
-
-abbrev pub interlaceOf : ℕ → Interlace
-interlaceOf n = if eqb n 1 then RepeatField else if eqb n 2 then Video else Progressive
 
 unfoldable pub switched : ℕ → Settings → Settings
 switched switches σ = record {

@@ -6,7 +6,7 @@ use settings::Settings;
 ghost use mathlib.Core.Path.{_≡_};
 ghost use Prim.Native.Nat.{_-_};
 ghost use Rattle.memory.specs.Word.{if_then_else_};
-ghost use Rattle.script.specs.Records.{bodyLength, interlaceOf, switched, registered, accepted, settingsAfter, memoryAfter};
+ghost use Rattle.script.specs.Records.{bodyLength, switched, registered, accepted, settingsAfter, memoryAfter};
 ghost use Rattle.script.specs.Feeding.{beginning, counted, begun, taken, stepped, ended, stepOf, feeding, atEnd};
 ghost use Rattle.script.specs.Script.{unset};
 
@@ -183,7 +183,7 @@ fn settings_after(kind: u8, body: u64, before: Settings) -> Settings
 fn set_switches(switches: u64, s: Settings) -> Settings
     ensures { λ r. ⌜ r ≡ switched switches s ⌝ }
 {
-    let interlace = interlace_of(switches / 4 % 4);
+    let interlace = settings::interlace_of((switches / 4 % 4) as u32);
     let edition = s.edition;
     let top = s.top;
     let tow = s.tow;
@@ -245,16 +245,6 @@ fn pick(test: bool, v: u16, other: u16) -> u16
     ensures { λ r. ⌜ r ≡ (if test then v else other) ⌝ }
 {
     if test { v } else { other }
-}
-
-fn interlace_of(n: u64) -> Interlace
-    ensures { λ r. ⌜ r ≡ interlaceOf n ⌝ }
-{
-    match n {
-        1 => Interlace::RepeatField,
-        2 => Interlace::Video,
-        _ => Interlace::Progressive,
-    }
 }
 
 fn body_length(kind: u8) -> u8

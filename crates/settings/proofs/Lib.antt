@@ -3,3 +3,4 @@ pub mod CodeLaws
 pub mod FieldSum
 pub mod FieldEnds
 pub mod CheckLaws
+pub mod InterlaceLaws

@@ -3,7 +3,7 @@ use Prim.Native.Nat.{ℕ, _-_, _%_, _<_, _≤_}
 use mathlib.Core.Bool.{Bool, true, false, _&&_}
 use lib.Dec.{ltb, leb, eqb}
 use lib.Bits.{bitAnd}
-use Rattle.memory.specs.Word.{high, low}
+use Rattle.memory.specs.Word.{if_then_else_, high, low}
 use Rattle.memory.specs.Reading.{Reading, check}
 use Rattle.settings.specs.declared.Interlace.{Interlace}
 use Rattle.settings.specs.declared.Interlace.the-variants.{Progressive, RepeatField, Video}
@@ -16,6 +16,10 @@ abbrev pub interlaceNumber : Interlace → ℕ
 interlaceNumber Progressive = 0
 interlaceNumber RepeatField = 1
 interlaceNumber Video = 2
+
+-- the mode of such a number; past 2 there is none, and who reads the number refuses it
+abbrev pub interlaceOf : ℕ → Interlace
+interlaceOf n = if eqb n 0 then Progressive else if eqb n 1 then RepeatField else Video
 
 -- "VSW and VSD 0..63; VAL and VTOT 0..4095; HSYNC 0..255; HSD 0..511; HTC and HTD 0..1023"
 abbrev pub inRange : Settings → Bool

@@ -5,7 +5,7 @@ ghost use mathlib.Core.Path.{_≡_};
 ghost use mathlib.Core.List.{List};
 ghost use Prim.Native.Nat.{ℕ, _-_, _*_, _≤_};
 ghost use Rattle.memory.specs.Reading.{runFrom};
-ghost use Rattle.settings.specs.Good.{good, inRange, shownColumns, inOrder, fitsFields, fitsMode, fitsMask, fitsDisplay, fitsEdition, checkSettings, Ordered};
+ghost use Rattle.settings.specs.Good.{interlaceOf, good, inRange, shownColumns, inOrder, fitsFields, fitsMode, fitsMask, fitsDisplay, fitsEdition, checkSettings, Ordered};
 ghost use Rattle.settings.specs.Timing.{halfLines, parity, added, timing, linesForRows, clocks, invokingCodes};
 ghost use Rattle.settings.specs.Sheet.{sheetOf, sheetCall};
 ghost use Rattle.settings.specs.AfterEnable.{fieldAt, partsOf};
@@ -182,6 +182,20 @@ fn in_order(s: Settings) -> bool
         & (s.hsd < s.htd)
         & (s.htd <= s.htc)
         & (shown_columns(s) <= 132)
+}
+
+// The interlace mode of document 01's number.
+pub fn interlace_of(number: u32) -> Interlace
+    ensures { λ r. ⌜ r ≡ interlaceOf number ⌝ }
+{
+    if number == 0 {
+        return Interlace::Progressive;
+    }
+    if number == 1 {
+        Interlace::RepeatField
+    } else {
+        Interlace::Video
+    }
 }
 
 fn fits_mode(s: Settings) -> bool

@@ -5,7 +5,9 @@ use Prim.Native.Nat.{ℕ, _≤_, _<_}
 use native.Mathlib.Omega.{arith}
 use lib.Dec.{lit≤}
 use Rattle.memory.specs.Address.{null}
+use Rattle.memory.specs.Reading.{onePointer}
 use Rattle.memory.proofs.ReadBounds.{Reads, dones, bind, check-reads, words-read}
+use Rattle.memory.proofs.Roles.{as-reads}
 use Rattle.settings.specs.declared.PointerWords.{PointerWords}
 use Rattle.settings.specs.declared.Settings.{Settings}
 use Rattle.settings.specs.Good.{good, checkSettings}
@@ -20,7 +22,7 @@ pub top-reads : (linear : Bool) (top : PointerWords) → Reads (λ m. (1 ≤ m .
 unfolding topBlock mainBlockAt mainBlock
 top-reads linear top =
     bind {n = 0} {k = 7} (lit≤ tt) (check-reads 6 (not (null (registered linear top)))) λ _ _.
-    bind {n = 7} {k = 0} (lit≤ tt) (bind {n = 7} {k = 0} (lit≤ tt) (words-read linear 7 (registered linear top)) λ b _. dones ((omega arith, omega arith), omega arith)) λ m h.
+    bind {n = 7} {k = 0} (lit≤ tt) (bind {n = 7} {k = 0} (lit≤ tt) (as-reads onePointer (words-read linear 7 (registered linear top))) λ b _. dones ((omega arith, omega arith), omega arith)) λ m h.
     bind {n = 0} {k = 0} (lit≤ tt) (check-reads 14 (not (enabled m && ofWindow m))) λ _ _. dones h
 
 -- the state of a start

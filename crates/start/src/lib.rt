@@ -80,7 +80,7 @@ fn scrolls_window(m4: u16) -> bool
 }
 
 // The rest of a start, once its settings are checked: the main block.
-fn start_main(settings: Settings, mem: &[u16], latch: u16) -> StartAnswer
+pub fn start_main(settings: Settings, mem: &[u16], latch: u16) -> StartAnswer
     ensures { λ r. ⌜ r ≡ started (run (now (mem .entry)) (mainStart latch settings)) ⌝ }
 {
     let top = settings.top;

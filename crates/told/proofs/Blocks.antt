@@ -8,18 +8,18 @@ use lib.ListN.{drop}
 use lib.Dec.{ltb, leb, lit<}
 use Rattle.memory.specs.declared.Pointer.{Pointer}
 use Rattle.memory.specs.Word.{if_then_else_, bit, at}
-use Rattle.memory.specs.Reading.{Reading, _>>=_}
+use Rattle.memory.specs.Reading.{Reading, _>>=_, readAs, onePointer}
 use Rattle.memory.specs.Address.{nothing, null, ahead, further, words}
 use Rattle.settings.specs.declared.Settings.{Settings}
 use Rattle.blocks.specs.declared.RowFormat.{RowFormat}
 use Rattle.blocks.specs.declared.Segment.{Segment}
 use Rattle.blocks.specs.Main.{mainBlock, mainBlockAt}
-use Rattle.blocks.specs.RowBlock.{RowBlock, segmentOf, segmentsAt, segmentsFrom, restOfBlock, blockAt, redefined}
+use Rattle.blocks.specs.RowBlock.{RowBlock, segmentOf, segmentsAt, segmentRoles, segmentsFrom, restOfBlock, blockAt, redefined}
 use Rattle.windows.specs.declared.WindowInHand.{WindowInHand}
 use Rattle.windows.specs.declared.WindowInHand.the-variants.{Absent, Present}
-use Rattle.windows.specs.Window.{windowOf, inOrder, windowAt, dueWindow}
+use Rattle.windows.specs.Window.{windowOf, twoPointers, inOrder, windowAt, dueWindow}
 use Rattle.told.specs.Told.{Reached}
-use Rattle.told.proofs.Tells.{Each, Tells, dones, bind, check-then, if-tells}
+use Rattle.told.proofs.Tells.{Each, Tells, dones, bind, as-tells, check-then, if-tells}
 use Rattle.told.proofs.Pointers.{no-words, Stands, null-stands, first, Copied, Passed, words-tell, copied-drop, pointer-stands}
 
 module _ (σ : Settings) (m : List ℕ) where
@@ -49,7 +49,7 @@ module _ (σ : Settings) (m : List ℕ) where
       → Reached σ m (further (σ .linear) k p) → Stands σ m redefinition → Says Linked (segmentsFrom (σ .linear) p head redefinition k)
   unfolding ahead
   segments-tell p head redefinition k c r s =
-      bind (words-tell σ m (5 * (at head 2 % 16)) (further (σ .linear) k p) r) λ gs d.
+      bind (as-tells (segmentRoles (at head 2 % 16)) (words-tell σ m (5 * (at head 2 % 16)) (further (σ .linear) k p) r)) λ gs d.
       dones
       (record {
         link = pointer-stands σ m (p .address) 0 3 head c (lit< tt);
@@ -58,9 +58,9 @@ module _ (σ : Settings) (m : List ℕ) where
       })
 
   rest-tells : (p : Pointer) (head : List ℕ) (b : Bool) → Passed σ m p 3 head → Says Linked (restOfBlock (σ .linear) p head (if b then 2 else 0))
-  unfolding restOfBlock words _>>=_ ahead
+  unfolding restOfBlock words readAs _>>=_ ahead
   rest-tells p head true h =
-      bind (words-tell σ m 2 (further (σ .linear) 3 p) (h .after)) λ re d.
+      bind (as-tells onePointer (words-tell σ m 2 (further (σ .linear) 3 p) (h .after))) λ re d.
       segments-tell p head _ 5 (h .copied) (d .after) (pointer-stands σ m (ahead (σ .linear) 3 (p .address)) 0 2 re (d .copied) (lit< tt))
   rest-tells p head false h =
       segments-tell p head _ 3 (h .copied) (h .after) (null-stands σ m _ (no-words (σ .linear) (ahead (σ .linear) 3 (p .address))))
@@ -71,7 +71,7 @@ module _ (σ : Settings) (m : List ℕ) where
       if-tells (null p)
       (λ _. dones (record { link = null-stands σ m nothing refl; redefinition = null-stands σ m nothing refl; segments = tt }))
       λ e.
-      bind (words-tell σ m 3 p (first σ m p s e)) λ head h. rest-tells p head (redefines && bit 15 (at head 2)) h
+      bind (as-tells onePointer (words-tell σ m 3 p (first σ m p s e))) λ head h. rest-tells p head (redefines && bit 15 (at head 2)) h
 
   pub redefined-tells : (p : Pointer) (t : RowFormat) → Stands σ m p → Says (λ _. Unit) (redefined (σ .linear) p t)
   unfolding redefined
@@ -80,7 +80,7 @@ module _ (σ : Settings) (m : List ℕ) where
   -- a main block
   pub main-tells : (p : Pointer) → Reached σ m p → Says (λ b. Stands σ m (b .rows)) (mainBlockAt (σ .linear) p)
   unfolding mainBlockAt mainBlock ahead
-  main-tells p r = bind (words-tell σ m 7 p r) λ b c. dones (pointer-stands σ m (p .address) 0 7 b (c .copied) (lit< tt))
+  main-tells p r = bind (as-tells onePointer (words-tell σ m 7 p r)) λ b c. dones (pointer-stands σ m (p .address) 0 7 b (c .copied) (lit< tt))
 
   -- a window in hand
   abbrev pub WindowStands : WindowInHand → Type 0
@@ -91,7 +91,7 @@ module _ (σ : Settings) (m : List ℕ) where
   unfolding windowAt windowOf ahead
   window-tells number least p s =
       if-tells (null p) (λ _. dones tt) λ e.
-      bind (words-tell σ m 6 p (first σ m p s e)) λ b c.
+      bind (as-tells twoPointers (words-tell σ m 6 p (first σ m p s e))) λ b c.
       let w = windowOf (σ .linear) number (p .address) b .block in
       check-then 8 _ (inOrder w && leb least (w .top)) refl λ _ _.
       dones (pointer-stands σ m (p .address) 0 6 b (c .copied) (lit< tt), pointer-stands σ m (p .address) 2 6 b (c .copied) (lit< tt))

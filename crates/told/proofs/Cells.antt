@@ -30,12 +30,12 @@ use Rattle.told.proofs.Pointers.{Stands, null-stands, first, onward-rea
 use Rattle.told.proofs.Blocks.{Says, Pointed}
 
 -- of any elements: nothing is asked of them
-any : {X : Type 0} (xs : List X) → Each (λ _. Unit) xs
+pub any : {X : Type 0} (xs : List X) → Each (λ _. Unit) xs
 any [] = tt
 any (x ∷ xs) = (tt, any xs)
 
 -- the segments on a side are among the segments
-on-side : (S : Segment → Type 0) (side : Side) (hidden : Bool) (s : ℕ) (gs : List Segment) → Each S gs → Each S (segmentsOn side hidden s gs)
+pub on-side : (S : Segment → Type 0) (side : Side) (hidden : Bool) (s : ℕ) (gs : List Segment) → Each S gs → Each S (segmentsOn side hidden s gs)
 unfolding segmentsOn
 on-side S side hidden s [] h = tt
 on-side S side hidden s (g ∷ gs) (h, hs) =

@@ -10,7 +10,7 @@ use Rattle.memory.specs.declared.Fault.{Fault}
 use Rattle.memory.specs.declared.Fetch.the-variants.{Word, Absent}
 use Rattle.memory.specs.declared.Pointer.{Pointer}
 use Rattle.memory.specs.Word.{if_then_else_}
-use Rattle.memory.specs.Reading.{Ask, Reading, done, refuse, ask, _>>=_, checkOf, each, fetch, Outcome, given, refused, runFrom}
+use Rattle.memory.specs.Reading.{Role, Ask, Reading, done, refuse, ask, _>>=_, readAs, checkOf, each, fetch, Outcome, given, refused, runFrom}
 use Rattle.memory.proofs.ReadBounds.{if-cases}
 
 -- the pointer of a question
@@ -44,6 +44,14 @@ module _ {m : List ℕ} {Q : Pointer → Type 0} where
   bind (dones {a} x) f = f a x
   bind (refuses e) f = refuses e
   bind (asks x g) f = asks x λ w y. bind (g w y) f
+
+  -- what a word is read as is not looked at
+  pub as-tells : {A : Type 0} {P : A → Type 0} (rs : List Role) {p : Reading A} → Tells m Q P p → Tells m Q P (readAs rs p)
+  unfolding readAs
+  as-tells [] h = h
+  as-tells (r ∷ rs) (dones x) = dones x
+  as-tells (r ∷ rs) (refuses e) = refuses e
+  as-tells (r ∷ rs) (asks x g) = asks x λ w y. as-tells rs (g w y)
 
   -- a check and what comes after it, which knows that the check was met
   pub check-then : {B : Type 0} {R : B → Type 0} (n : ℕ) (p : Pointer) (b : Bool) {k : Unit {0} → Reading B} → eqb n 7 ≡ false

@@ -7,7 +7,7 @@ use mathlib.Core.List.{List, [], _∷_, _++_}
 use native.Mathlib.Omega.{arith}
 use lib.ListN.{length, replicate}
 use borrow.Author.Tests.{not-true}
-use Rattle.memory.specs.Reading.{_>>=_, each, runFrom, asked}
+use Rattle.memory.specs.Reading.{_>>=_, readAs, each, runFrom, asked}
 use Rattle.memory.specs.Address.{to, pointer, nextWord, ahead, words}
 use Rattle.memory.proofs.ReadBounds.{both}
 use Rattle.settings.specs.declared.Edition.the-variants.{Am8052}
@@ -17,7 +17,7 @@ use Rattle.settings.specs.Good.{good, checkSettings}
 use Rattle.settings.specs.Timing.{linesForRows}
 use Rattle.windows.specs.declared.WindowInHand.the-variants.{Absent}
 use Rattle.blocks.specs.Main.{mainBlock, mainBlockAt}
-use Rattle.blocks.specs.RowBlock.{segmentOf, segmentsAt, restOfBlock, blockAt, rowBlockAt, redefined}
+use Rattle.blocks.specs.RowBlock.{segmentOf, segmentsAt, segmentRoles, restOfBlock, blockAt, rowBlockAt, redefined}
 use Rattle.windows.specs.Window as W
 use Rattle.state.specs.State as S
 use Rattle.layout.specs.Layout.{total, allFit, edgesFit}
@@ -104,7 +104,7 @@ pub computed : (inTurns 22 ≡ 2 ∷ 4 ∷ 6 ∷ 8 ∷ 10 ∷ 12 ∷ 14 ∷ 16 �
     × (writeWord memory (spans 22 supervisor) (spans 22 forecaster) 22 1 .answer ≡ Written)
     × (inTurns 20 ≡ 2 ∷ 4 ∷ 6 ∷ 8 ∷ 10 ∷ 12 ∷ 14 ∷ 16 ∷ 18 ∷ 20 ∷ 22 ∷ 24 ∷ [])
     × (byItself 20 ≡ 2 ∷ 4 ∷ 6 ∷ 8 ∷ 10 ∷ 12 ∷ 14 ∷ 16 ∷ 18 ∷ 20 ∷ [])
-unfolding settings memory spans states action actions inTurns byItself inTurn gets alone reads readBy inMemory answer stateAfter memoryAfter startListed rowListed written startCall writeWord good checkSettings linesForRows pointer nextWord ahead words _>>=_ each runFrom asked mainBlock mainBlockAt segmentOf segmentsAt restOfBlock blockAt rowBlockAt redefined W.windowAt W.firstWindow W.dueWindow S.windowInRange S.inRange total allFit edgesFit windowRow overlaid nextFields backgroundBlock backgroundRow plan codes fillByWord fillTo segment segmentsTo rowCells topBlock firstFields windowStart startFrom Rows.row Rows.rowCall
+unfolding settings memory spans states action actions inTurns byItself inTurn gets alone reads readBy inMemory answer stateAfter memoryAfter startListed rowListed written startCall writeWord good checkSettings linesForRows pointer nextWord ahead words readAs _>>=_ each runFrom asked mainBlock mainBlockAt segmentOf segmentsAt segmentRoles restOfBlock blockAt rowBlockAt redefined W.windowAt W.firstWindow W.dueWindow S.windowInRange S.inRange total allFit edgesFit windowRow overlaid nextFields backgroundBlock backgroundRow plan codes fillByWord fillTo segment segmentsTo rowCells topBlock firstFields windowStart startFrom Rows.row Rows.rowCall
 computed = (refl, refl, refl, refl)
 
 -- addresses clear of a span, by a test

@@ -10,11 +10,12 @@ use mathlib.Core.List.{List}
 use Rattle.memory.specs.declared.Pointer.{Pointer}
 use Rattle.memory.specs.Address.{null}
 use Rattle.memory.proofs.ReadBounds.{Reads, dones, implies, bind, check-of-reads, if-reads, both, words-read}
+use Rattle.memory.proofs.Roles.{as-reads}
 use Rattle.windows.specs.declared.WindowBlock.{WindowBlock}
 use Rattle.windows.specs.declared.Window.{Window}
 use Rattle.windows.specs.declared.WindowInHand.{WindowInHand}
 use Rattle.windows.specs.declared.WindowInHand.the-variants.{Absent, Present}
-use Rattle.windows.specs.Window.{windowOf, inOrder, windowAt, dueWindow}
+use Rattle.windows.specs.Window.{windowOf, twoPointers, inOrder, windowAt, dueWindow}
 
 abbrev pub Ordered : WindowBlock → Type 0
 Ordered b = (b .top ≤ b .bottom) × (b .left ≤ b .right) × (b .right ≤ 131)
@@ -61,7 +62,7 @@ pub window-reads : (linear : Bool) (number least : ℕ) (p : Pointer) → number
 unfolding windowAt
 window-reads linear number least p l =
     if-reads (null p) (λ _. dones (tt, tt)) λ _.
-    bind {n = 6} {k = 0} (omega arith) (words-read linear 6 p) λ b _.
+    bind {n = 6} {k = 0} (omega arith) (as-reads twoPointers (words-read linear 6 p)) λ b _.
     let w = windowOf linear number (p .address) b .block in
     bind {n = 0} {k = 0} (omega arith) (check-of-reads 8 p (inOrder w && leb least (w .top))) λ _ h.
     let k = both (inOrder w) (leb least (w .top)) h in

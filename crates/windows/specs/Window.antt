@@ -1,11 +1,11 @@
 -- Document 01, "Blocks" and "A row, left to right": window blocks, and the window in hand.
 use Prim.Native.Nat.{ℕ, _+_}
 use mathlib.Core.Bool.{Bool, _&&_}
-use mathlib.Core.List.{List}
+use mathlib.Core.List.{List, [], _∷_}
 use lib.Dec.{ltb, leb}
 use Rattle.memory.specs.Word.{if_then_else_, high, low, at}
 use Rattle.memory.specs.declared.Pointer.{Pointer}
-use Rattle.memory.specs.Reading.{Reading, done, _>>=_, _>>_, checkOf}
+use Rattle.memory.specs.Reading.{Role, First, Second, Reading, done, _>>=_, _>>_, readAs, checkOf}
 use Rattle.memory.specs.Address.{pointer, null, ahead, words}
 use Rattle.windows.specs.declared.WindowBlock.{WindowBlock}
 use Rattle.windows.specs.declared.Window.{Window}
@@ -28,6 +28,10 @@ windowOf linear number a b = record {
   rows = pointer linear (ahead linear 2 a) (at b 2) (at b 3);
 }
 
+-- its words begin with two pointers
+abbrev pub twoPointers : List Role
+twoPointers = First ∷ Second ∷ First ∷ Second ∷ []
+
 -- rows in order; columns in order, the last at most 131
 abbrev pub inOrder : WindowBlock → Bool
 inOrder b = leb (b .top) (b .bottom) && leb (b .left) (b .right) && leb (b .right) 131
@@ -36,7 +40,7 @@ inOrder b = leb (b .top) (b .bottom) && leb (b .left) (b .right) && leb (b .righ
 -- row after the last row of the one before is `least`, 0 where there is none.
 unfoldable pub windowAt : Bool → ℕ → ℕ → Pointer → Reading WindowInHand
 windowAt linear number least p = if null p then done Absent else do
-  b ← words linear 6 p
+  b ← readAs twoPointers (words linear 6 p)
   let w = windowOf linear number (p .address) b
   checkOf 8 p (inOrder (w .block) && leb least (w .block .top))
   done (Present w)

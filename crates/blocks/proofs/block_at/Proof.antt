@@ -3,6 +3,7 @@ use mathlib.Core.Path.{sym, _∙_}
 use borrow.Author.Tests.{eq-eqb, ne-eqb}
 use Rattle.memory.proofs.Laws.{step-refused, run-done}
 use Rattle.memory.proofs.WordLaws.{read-whole, read-refused}
+use Rattle.memory.proofs.Roles.{run-as}
 use Rattle.blocks.specs.RowBlock.{segmentsAt, blockAt}
 use Rattle.blocks.proofs.BlockLaws.{block-read, block-refused, few-before}
 use borrow.Author.Needs.{needs}
@@ -35,7 +36,7 @@ returns-4 : tie.Need-returns-4
 unfolding blockAt
 returns-4 c =
     let r = c .before .before .before .before .read-words in
-    rw (ne-eqb _ 0 (c .before .before .before .before .before .before .if1 .left)) (sym (step-refused 0 _ _ _ (read-refused _ _ 3 _ _ _ (r .ensures) (c .before .fault2 .given .1))))
+    rw (ne-eqb _ 0 (c .before .before .before .before .before .before .if1 .left)) (sym (step-refused 0 _ _ _ (run-as _ _ _ _ ∙ read-refused _ _ 3 _ _ _ (r .ensures) (c .before .fault2 .given .1))))
 
 pub block-at-spec : {M : Type 1} → statement M
 block-at-spec =

@@ -2,6 +2,7 @@
 use mathlib.Core.Path.{sym, _∙_}
 use Rattle.memory.proofs.Laws.{step-given, step-refused, run-done}
 use Rattle.memory.proofs.WordLaws.{read-whole, read-refused}
+use Rattle.memory.proofs.Roles.{run-as}
 use Rattle.blocks.specs.Answers.{redefinitionPointer}
 use Rattle.blocks.proofs.BlockLaws.{no-redefinition}
 use borrow.Author.Needs.{needs}
@@ -14,7 +15,7 @@ returns c =
     let r = c .before .before .before .before .read-words in
     let f = c .before .before .before .before .before .before .further .ensures in
     rw (c .before .before .before .before .before .before .before .if1 .taken, c .pointer-of .ensures, f)
-    (sym (step-given 3 _ _ _ (read-whole _ _ 2 _ _ _ (rw f at (r .ensures)) (c .before .enum-told .given .1) (r .kept .1 .1 .1 .0)) ∙ run-done _ _ _))
+    (sym (step-given 3 _ _ _ (run-as _ _ _ _ ∙ read-whole _ _ 2 _ _ _ (rw f at (r .ensures)) (c .before .enum-told .given .1) (r .kept .1 .1 .1 .0)) ∙ run-done _ _ _))
 
 returns-2 : tie.Need-returns-2
 unfolding redefinitionPointer
@@ -22,7 +23,7 @@ returns-2 c =
     let r = c .before .before .before .before .read-words in
     let f = c .before .before .before .before .before .before .further .ensures in
     rw (c .before .before .before .before .before .before .before .if1 .taken)
-    (sym (step-refused 3 _ _ _ (read-refused _ _ 2 _ _ _ (rw f at (r .ensures)) (c .before .fault .given .1))))
+    (sym (step-refused 3 _ _ _ (run-as _ _ _ _ ∙ read-refused _ _ 2 _ _ _ (rw f at (r .ensures)) (c .before .fault .given .1))))
 
 returns-3 : tie.Need-returns-3
 returns-3 c = rw (c .if1 .left) (sym (no-redefinition _ _ _ _))

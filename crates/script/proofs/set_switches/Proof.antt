@@ -1,4 +1,4 @@
--- Each switch is the bit that the definition has.
+-- Each switch is the bit that the definition has; the two bits of the interlace mode fit any width.
 use native.Mathlib.Nat.{div-one}
 use Rattle.script.specs.Records.{switched}
 use borrow.Author.Needs.{needs}
@@ -13,5 +13,6 @@ pub set-switches-spec : {M : Type 1} → statement M
 set-switches-spec =
     tie.close
     (tie.spec
+    (λ c. search needs)
     (λ c κs. search needs)
     returns)

@@ -10,6 +10,7 @@ use borrow.Author.Tests.{eq-eqb, ne-eqb, leb-true}
 use Rattle.memory.specs.Reading.{given}
 use Rattle.memory.proofs.Laws.{step-given, step-refused, run-done, check-of-passed, check-of-failed}
 use Rattle.memory.proofs.WordLaws.{read-whole, read-refused}
+use Rattle.memory.proofs.Roles.{run-as}
 use Rattle.windows.specs.declared.WindowBlock.{WindowBlock}
 use Rattle.windows.specs.Window.{windowOf, inOrder, windowAt}
 use borrow.Author.Needs.{needs}
@@ -31,7 +32,7 @@ returns-2 c =
     let t = sym (c .before .may-follow .ensures) ∙ c .if2 .taken in
     let number = byte _ _ (c .before .before .before .window-of .result .block) (c .before .before .before .before .before .before .before .before .before .before .before .before .before .before .pre) t (omega (arith, c .before .before .before .window-of .ok)) in
     rw (ne-eqb _ 0 (c .before .before .before .before .before .before .before .before .before .before .before .if1 .left), c .before .before .before .window-of .ensures, c .before .before .before .before .before .low-byte .ensures, number)
-    (sym (step-given 0 _ _ _ (read-whole _ _ 6 _ _ _ (r .ensures) (c .before .before .before .before .before .before .enum-told .given .1) (r .kept .1 .1 .1 .0))
+    (sym (step-given 0 _ _ _ (run-as _ _ _ _ ∙ read-whole _ _ 6 _ _ _ (r .ensures) (c .before .before .before .before .before .before .enum-told .given .1) (r .kept .1 .1 .1 .0))
     ∙ check-of-passed _ _ _ _ _ _ (rw (c .before .before .before .window-of .ensures, c .before .before .before .before .before .low-byte .ensures, number) at t) ∙ run-done _ _ _))
 
 returns-3 : tie.Need-returns-3
@@ -39,14 +40,14 @@ unfolding windowAt windowOf
 returns-3 c =
     let r = c .before .before .before .before .before .before .before .before .before .before .read-words in
     rw (c .blame .ensures, ne-eqb _ 0 (c .before .before .before .before .before .before .before .before .before .before .before .before .if1 .left))
-    (sym (step-given 0 _ _ _ (read-whole _ _ 6 _ _ _ (r .ensures) (c .before .before .before .before .before .before .before .enum-told .given .1) (r .kept .1 .1 .1 .0))
+    (sym (step-given 0 _ _ _ (run-as _ _ _ _ ∙ read-whole _ _ 6 _ _ _ (r .ensures) (c .before .before .before .before .before .before .before .enum-told .given .1) (r .kept .1 .1 .1 .0))
     ∙ check-of-failed _ _ _ _ _ _ (sym (rw (c .before .before .before .before .window-of .ensures) at (c .before .before .may-follow .ensures)) ∙ c .before .if2 .left)))
 
 returns-4 : tie.Need-returns-4
 unfolding windowAt
 returns-4 c =
     let r = c .before .before .before .before .read-words in
-    rw (ne-eqb _ 0 (c .before .before .before .before .before .before .if1 .left)) (sym (step-refused 0 _ _ _ (read-refused _ _ 6 _ _ _ (r .ensures) (c .before .fault .given .1))))
+    rw (ne-eqb _ 0 (c .before .before .before .before .before .before .if1 .left)) (sym (step-refused 0 _ _ _ (run-as _ _ _ _ ∙ read-refused _ _ 6 _ _ _ (r .ensures) (c .before .fault .given .1))))
 
 pub window-at-spec : {M : Type 1} → statement M
 window-at-spec =

@@ -16,10 +16,26 @@ returns c =
     let h2 = h3 .before .before in
     let h1 = h2 .before .before in
     let edition = h1 .before .before in
-    rw (e .htd-at .ensures, h7 .held7 .ensures, h6 .held6 .ensures)
-    (rw (h5 .held5 .ensures, h4 .held4 .ensures, h3 .held3 .ensures)
-    (rw (h2 .held2 .ensures, h1 .held .ensures)
-    (rw (edition .edition-of .ensures, edition .before .before .interlace-of .ensures))))
+    let interlace = edition .before .before in
+    let v = settingsAt (interlace .before .before .before .args .n .now) in
+    λ i. record {
+      linear = v .linear;
+      hidden = v .hidden;
+      interlace = interlace .interlace-of .ensures i;
+      cursor = v .cursor;
+      flag = v .flag;
+      top = v .top;
+      tow = v .tow;
+      vsw = h1 .held .ensures i;
+      vsd = h2 .held2 .ensures i;
+      val = h3 .held3 .ensures i;
+      vtot = h4 .held4 .ensures i;
+      hsync = h5 .held5 .ensures i;
+      hsd = h6 .held6 .ensures i;
+      htc = h7 .held7 .ensures i;
+      htd = e .htd-at .ensures i;
+      edition = edition .edition-of .ensures i;
+    }
 
 pub settings-at-spec : {M : Type 1} → statement M
 settings-at-spec =

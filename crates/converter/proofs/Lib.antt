@@ -1,0 +1,14 @@
+pub mod Alike
+pub mod Pointers
+pub mod Blocks
+pub mod Cells
+pub mod Rows
+pub mod Walks
+pub mod Theorem
+pub mod Below
+pub mod Frames
+pub mod Unread
+pub mod FirstWords
+pub mod Converted
+pub mod Cases
+pub mod WalkLaws

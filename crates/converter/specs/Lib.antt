@@ -1,0 +1,5 @@
+pub mod Walk
+pub mod Below
+pub mod Converter
+pub mod Conversions
+pub mod Cases
