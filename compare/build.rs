@@ -1,5 +1,5 @@
-//! Links libthagaduvin.a and libthagaduvin_mend.a to the programs that call them, and libthagaduvin_scroll.a to the one that scrolls,
-//! from the folder HOST_LIB or ../target/staticlib.
+//! Links libthagaduvin.a and libthagaduvin_mend.a to the programs that call them, and libthagaduvin_scroll.a and libthagaduvin_convert.a to
+//! the one that scrolls and converts, from the folder HOST_LIB or ../target/staticlib.
 
 use std::{env, path::PathBuf};
 
@@ -10,14 +10,16 @@ fn main() {
         PathBuf::from,
     );
     println!("cargo::rerun-if-env-changed=HOST_LIB");
-    for name in ["libthagaduvin.a", "libthagaduvin_mend.a"] {
+    for (name, programs) in [
+        ("libthagaduvin.a", &["host", "measure"][..]),
+        ("libthagaduvin_mend.a", &["host", "measure"]),
+        ("libthagaduvin_scroll.a", &["host"]),
+        ("libthagaduvin_convert.a", &["host"]),
+    ] {
         let library = folder.join(name);
         println!("cargo::rerun-if-changed={}", library.display());
-        for program in ["host", "measure"] {
+        for program in programs {
             println!("cargo::rustc-link-arg-bin={program}={}", library.display());
         }
     }
-    let scroll = folder.join("libthagaduvin_scroll.a");
-    println!("cargo::rerun-if-changed={}", scroll.display());
-    println!("cargo::rustc-link-arg-bin=host={}", scroll.display());
 }

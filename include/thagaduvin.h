@@ -3,11 +3,12 @@
  * A slice is a pointer and its count of elements, one argument after the other. No pointer is null, also where the count is 0. A
  * slice that a call writes (not const) overlaps no other slice of that call.
  *
- * Every call gives a status: 0, accepted; 1 to 16 but 5, 20, 21 and 23 to 25, the number of the refusal; 255, a slice has not the count
+ * Every call gives a status: 0, accepted; 1 to 26 but 5, the number of the refusal; 255, a slice has not the count
  * that its table says, a state's latch, cursor, fill or mark of a window is past its range, an effect is none that an effect call writes,
  * or the mark of totals is above 1. 255 is judged before all, and writes nothing. Any other number past its range is refused as document
  * 01 says: among settings refusal 2, in a state refusal 3. A refusal writes the row and two addresses into the answer and nothing else:
- * state, scroll, cells and list stay as they were. The count of cells is judged by refusal 1 and that of a list by refusal 25, not by 255. */
+ * settings, memory, state, scroll, cells and list stay as they were. The count of cells is judged by refusal 1, that of a list by refusal 25
+ * and that of marks by refusal 22, not by 255. */
 #ifndef THAGADUVIN_H
 #define THAGADUVIN_H
 
@@ -16,7 +17,7 @@
 
 /* Settings, with the range of each place; where nothing is said, 0 to 65535. A number past it is refusal 2, as are settings not good. */
 enum {
-    THAGADUVIN_LINEAR,     /* 1 linear, 0 segmented */
+    THAGADUVIN_LINEAR,     /* 1 linear, 0 segmented: refusal 17 in a start, row, effect or shift call */
     THAGADUVIN_HIDDEN,     /* 1 Display Hidden */
     THAGADUVIN_INTERLACE,  /* 0 none, 1 repeat field, 2 video */
     THAGADUVIN_CURSOR,     /* 1 cursor enabled */
@@ -157,7 +158,7 @@ enum {
  * where the number of its refusal is not 0; else it sets the latch or keeps it. What a part does not use is 0. Twelve zeros are the
  * empty effect. */
 enum {
-    THAGADUVIN_PART_REFUSAL,   /* number of its refusal, 0, 2 to 4 or 7 to 13 */
+    THAGADUVIN_PART_REFUSAL,   /* number of its refusal, 0, 2 to 4, 7 to 13 or 17 */
     THAGADUVIN_PART_ROW,       /* the refusal's row, any number */
     THAGADUVIN_PART_ADDRESS,   /* the refusal's address, any number */
     THAGADUVIN_PART_FROM,      /* of refusal 7, where the pointer begins, any number; else 0 */
@@ -194,6 +195,12 @@ enum {
     THAGADUVIN_CHANGED_SECOND, /* its second word before */
     THAGADUVIN_CHANGED_NUMBER, /* the number of the refusal that it is to blame for, 7 to 13 */
     THAGADUVIN_MEND_ANSWER     /* 8 numbers */
+};
+
+/* The answer of a conversion. */
+enum {
+    THAGADUVIN_TURNED = 3,     /* how many pointers have changed, TOP and TOW among them; a refusal writes 0 */
+    THAGADUVIN_CONVERT_ANSWER  /* 4 numbers */
 };
 
 /* The running totals of a bus report, 64-bit numbers: all 0 before the first row. An accepted call writes all of them; they are handed to the
@@ -285,7 +292,7 @@ uint8_t thagaduvin_write_word(uint16_t *memory, size_t memory_count, uint32_t ow
  * 14 enable, 13 up, 12 window (refused with enable, as only the background scrolls), 11 to 8 the rate: 0 to 7 are 1 to 8 scan lines a
  * frame, 8 to 15 a scan line in 1 to 8 frames. In the frame that ends a scroll the shift is 0 and the hard top is the soft one. The
  * soft top is looked at in a scroll down only, where a null one is refusal 6; the row that leaves or enters is read for its scan lines,
- * and its segments are not judged: no 9 or 10 here. Refusals: 2, 3, 6, 7 and 14, M4 with enable and window; a start gives 14 too. */
+ * and its segments are not judged: no 9 or 10 here. Refusals: 2, 17, 3, 6, 7 and 14, M4 with enable and window; a start gives 14 too. */
 uint8_t thagaduvin_shift(const uint32_t *settings, size_t settings_count, const uint16_t *memory, size_t memory_count,
                          uint16_t soft_first, uint16_t soft_second, uint32_t *scroll, size_t scroll_count, uint32_t *answer,
                          size_t answer_count);
@@ -307,9 +314,21 @@ uint8_t thagaduvin_beside(const uint32_t *settings, size_t settings_count, const
 /* One step of mending a damaged list: a frame is drawn from `latch`, and at a refusal 7 to 13 the pointer to blame for it is set to 0: 7 the
  * pointer in use, 13 the attribute pointer, 9 and 10 the one that led to the row block or window row block, 8, 11 and 12 the one that led to
  * the window. Its two words become 0, in `memory` or, for TOW, in `settings`; nothing else changes. Status 0 with CHANGED 1: call again, from the same
- * latch; each change leaves fewer words that are not 0, so this ends. Status 0 with CHANGED 0: the list is drawn to its end. Refusals 2, 6, 14
- * and 7 on a main block are given as they are, and nothing is changed. */
+ * latch; each change leaves fewer words that are not 0, so this ends. Status 0 with CHANGED 0: the list is drawn to its end. Refusals 2, 6, 14,
+ * 17 and 7 on a main block are given as they are, and nothing is changed. */
 uint8_t thagaduvin_mend(uint32_t *settings, size_t settings_count, uint16_t *memory, size_t memory_count, uint16_t latch, uint32_t *answer,
                         size_t answer_count);
+
+/* The call that converts is in a library of its own, libthagaduvin_convert.a. */
+
+/* A segmented list turned into a linear one: the frame from `latch` is followed, and the first word of each pointer that it reads, in `memory`, and those
+ * of TOP and TOW, in `settings`, take their linear form, each once: the page in the low byte, the other bits 0. Second words stay, as do pointers
+ * that the frame does not read. The settings are then linear, and the linear frame from that latch has the cells and counts of the segmented
+ * one. `marks` has a byte for each word of memory, whatever it holds, and is free after the call. Refusals: 22, another number of marks, first of
+ * all; 2; 26, the settings are linear; then as they are met 18, a block or list that is read on over its page end (address of the page's last
+ * word), 19, a word of a pointer that is also read as anything but that word of a pointer (its address), and those of a start and its rows, 6 to 14.
+ * A refusal leaves settings and memory as they were. */
+uint8_t thagaduvin_convert(uint32_t *settings, size_t settings_count, uint16_t *memory, size_t memory_count, uint8_t *marks,
+                           size_t marks_count, uint16_t latch, uint32_t *answer, size_t answer_count);
 
 #endif

@@ -91,23 +91,18 @@ fn order_of_a_row() {
 /// Lists that wrap go on at the address stepped to.
 #[test]
 fn addresses_past_a_wrap() {
-    for linear in [false, true] {
-        let words = if linear { 0x80_0000 } else { 0x8000 };
-        let last = words as u32 * 2 - 2;
-        let mut memory = vec![0; words];
-        let [high, low] = [(last >> 16) as u16, last as u16];
-        memory[8..15].copy_from_slice(&[0, 0x100, 0, 0x20, 0, 0, 0]);
-        memory[0x80..0x88].copy_from_slice(&[0, 0, 1, high, low, high, low, 0x0404]);
-        memory[words - 1] = 0xC1C2;
-        memory[0] = 0xC3C4;
-        let settings = Settings { linear, ..wide() };
-        let mut state = start(&settings, &memory, 0).unwrap().state;
-        let mut list = [9; PLACES];
-        let row = rules::row(&settings, &memory, &mut state, &mut [0; CELLS], &mut list).unwrap();
-        let listed = [last, last, 0, 0, 2, 4];
-        assert_eq!(row.words, 14);
-        assert_eq!(list[..14], [run(0x100, 8), listed.to_vec()].concat());
-    }
+    let last = 0xFF_FFFE;
+    let mut memory = vec![0; 0x80_0000];
+    memory[8..15].copy_from_slice(&[0, 0x100, 0, 0x20, 0, 0, 0]);
+    memory[0x80..0x88].copy_from_slice(&[0, 0, 1, 0xFF, 0xFFFE, 0xFF, 0xFFFE, 0x0404]);
+    memory[last as usize / 2] = 0xC1C2;
+    memory[0] = 0xC3C4;
+    let mut state = start(&wide(), &memory, 0).unwrap().state;
+    let mut list = [9; PLACES];
+    let row = rules::row(&wide(), &memory, &mut state, &mut [0; CELLS], &mut list).unwrap();
+    let listed = [last, last, 0, 0, 2, 4];
+    assert_eq!(row.words, 14);
+    assert_eq!(list[..14], [run(0x100, 8), listed.to_vec()].concat());
 }
 
 /// 25 for any other number of places: first of all in a start, just after 1 in a row.

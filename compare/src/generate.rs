@@ -65,6 +65,8 @@ pub struct Shape {
     pub columns: usize,
     /// How many cases in a hundred are damaged.
     pub damaged: usize,
+    /// How many in a hundred are segmented, which only the converter takes.
+    pub segmented: usize,
     /// Word number from which blocks are laid in a memory below one page.
     pub first: usize,
 }
@@ -78,6 +80,7 @@ impl Shape {
             lines: 90,
             columns: 132,
             damaged: 40,
+            segmented: 4,
             first: 0,
         }
     }
@@ -89,6 +92,7 @@ impl Shape {
         lines: 40,
         columns: 20,
         damaged: 40,
+        segmented: 4,
         first: 0,
     };
 
@@ -99,6 +103,7 @@ impl Shape {
         lines: 90,
         columns: 132,
         damaged: 25,
+        segmented: 4,
         first: 0,
     };
 
@@ -109,6 +114,7 @@ impl Shape {
         lines: 90,
         columns: 132,
         damaged: 25,
+        segmented: 4,
         first: 0,
     };
 }
@@ -148,6 +154,8 @@ enum Fault {
     Many,
     /// Many code and attribute lists outside memory, and fill words: what these cost is a segment's, and no row's.
     Lists,
+    /// Lists that begin in words of other blocks and lists.
+    Shared,
 }
 
 impl Fault {
@@ -180,12 +188,23 @@ const FAULTS: [Fault; 14] = [
 const PAGE: usize = 0x8000;
 const ADDRESSABLE: usize = 0x80_0000;
 
+/// The address of the word after the one at an even address.
+fn step(linear: bool, address: u32) -> u32 {
+    if linear {
+        rules::step(address)
+    } else {
+        address & 0xFF_0000 | (address + 2) & 0xFFFF
+    }
+}
+
 /// Memory under construction.
 struct Image {
     linear: bool,
     memory: Vec<u16>,
     /// Word number from which blocks are laid one after another.
     next: usize,
+    /// The same in other pages.
+    others: Vec<usize>,
     /// Word numbers after a page end, or after FFFFFE, that one block or list may cross.
     ends: Vec<usize>,
     /// One of these that is kept for a block: its pointers then begin on either side.
@@ -198,16 +217,22 @@ impl Image {
         let words = shape.memory;
         let mut ends = Vec::new();
         let mut next = shape.first + 1 + rng.below(16);
-        let pages = words / PAGE;
+        let mut others = Vec::new();
+        let pages = (words / PAGE).min(if linear { 256 } else { 128 });
         if pages > 0 {
-            next = rng.below(pages) * PAGE + 700;
+            let page = rng.below(pages);
+            next = page * PAGE + 700;
+            let other = rng.below(pages);
+            if other != page && rng.once_in(2) {
+                others.push(other * PAGE + 700);
+            }
             for _ in 0..3 {
                 let end = (1 + rng.below(pages)) * PAGE;
                 if !ends.contains(&end) {
                     ends.push(end);
                 }
             }
-            if words >= ADDRESSABLE && !ends.contains(&ADDRESSABLE) {
+            if linear && words >= ADDRESSABLE && !ends.contains(&ADDRESSABLE) {
                 ends.push(ADDRESSABLE);
             }
         }
@@ -216,6 +241,7 @@ impl Image {
             linear,
             memory: vec![0; words],
             next,
+            others,
             ends,
             kept,
             written: Vec::new(),
@@ -227,7 +253,11 @@ impl Image {
         if words > 1 && !self.ends.is_empty() && rng.once_in(6) {
             let n = rng.below(self.ends.len());
             let end = self.ends.swap_remove(n);
-            return (end - rng.range(1, words - 1).min(500)) as u32 * 2;
+            return self.before(rng, end, words);
+        }
+        if !self.others.is_empty() && rng.once_in(8) {
+            let n = rng.below(self.others.len());
+            std::mem::swap(&mut self.next, &mut self.others[n]);
         }
         let gap = if rng.once_in(4) { rng.below(4) } else { 0 };
         let index = (self.next + gap) % ADDRESSABLE;
@@ -235,12 +265,22 @@ impl Image {
         (index.max(1) * 2) as u32
     }
 
+    /// An address from which so many words cross an end; half of the segmented ones come to it, and no further.
+    fn before(&self, rng: &mut Rng, end: usize, words: usize) -> u32 {
+        let words = if self.linear || rng.once_in(2) {
+            rng.range(1, words - 1).min(500)
+        } else {
+            words
+        };
+        (end - words) as u32 * 2
+    }
+
     /// An address for a block of a chain; one in `times` crosses the end that is kept.
     fn place_block(&mut self, rng: &mut Rng, words: usize, times: usize) -> u32 {
         match self.kept {
             Some(end) if rng.once_in(times) => {
                 self.kept = None;
-                (end - rng.range(1, words - 1)) as u32 * 2
+                self.before(rng, end, words)
             }
             _ => self.place(rng, words),
         }
@@ -254,7 +294,7 @@ impl Image {
                 *cell = word;
                 self.written.push(index);
             }
-            address = rules::step(self.linear, address);
+            address = step(self.linear, address);
         }
     }
 
@@ -371,7 +411,7 @@ fn good_settings(rng: &mut Rng, shape: &Shape) -> Settings {
         rng.word() & mask
     };
     Settings {
-        linear: rng.once_in(2),
+        linear: rng.below(100) >= shape.segmented,
         display_hidden: rng.once_in(4),
         interlace,
         cursor: !rng.once_in(4),
@@ -856,6 +896,11 @@ impl Frame {
                 }
             }
             Fault::Settings => damage_settings(rng, &mut self.settings),
+            Fault::Shared => {
+                for _ in 0..rng.range(1, 3) {
+                    self.share(rng);
+                }
+            }
             // The draw program's memory cannot be cut; any other is cut among the blocks.
             Fault::Truncated if shape.memory != script::MEMORY => {
                 let index = rng.pick(&self.image.written);
@@ -863,6 +908,34 @@ impl Frame {
             }
             _ => {}
         }
+    }
+
+    /// Points a code or an attribute pointer of a row at a word that is written already.
+    fn share(&mut self, rng: &mut Rng) {
+        let background = self.window_rows.is_empty() || rng.once_in(2);
+        let blocks = if background {
+            &self.rows
+        } else {
+            &self.window_rows
+        };
+        let mut at = rng.pick(blocks);
+        let head = step(self.image.linear, step(self.image.linear, at));
+        let Some(&head) = self.image.memory.get(head as usize / 2) else {
+            return;
+        };
+        let segments = usize::from(head & 15);
+        if segments == 0 {
+            return;
+        }
+        let redefined = background && head & 0x8000 != 0;
+        let words = 3 + 2 * usize::from(redefined) + 5 * rng.below(segments);
+        for _ in 0..words + rng.pick(&[0, 2]) {
+            at = step(self.image.linear, at);
+        }
+        let near = rng.below(40);
+        let word = (rng.pick(&self.image.written) + 8).saturating_sub(near);
+        let pointer = self.image.pointer(rng, 2 * word as u32);
+        self.image.write(at, &pointer);
     }
 
     /// Lays a main block with a first row block and the low bits of M6, and gives its address.
@@ -1029,6 +1102,30 @@ fn damaged_frame(rng: &mut Rng, shape: &Shape) -> Frame {
     Frame::new(rng, shape, fault)
 }
 
+/// A random segmented case, seldom a linear one: sound, with lists that share words, or damaged.
+pub fn segmented(rng: &mut Rng, shape: &Shape) -> Case {
+    let frame = segmented_frame(rng, shape);
+    case_of(rng, frame)
+}
+
+fn segmented_frame(rng: &mut Rng, shape: &Shape) -> Frame {
+    let fault = match rng.below(10) {
+        0..=5 => Fault::None,
+        6 | 7 => Fault::Shared,
+        8 => Fault::Words,
+        _ => rng.pick(&FAULTS),
+    };
+    let segmented = 97;
+    Frame::new(
+        rng,
+        &Shape {
+            segmented,
+            ..*shape
+        },
+        fault,
+    )
+}
+
 fn case_of(rng: &mut Rng, frame: Frame) -> Case {
     let state = rng.once_in(3).then(|| frame.state(rng));
     let calls = rng.range(1, 16);
@@ -1050,51 +1147,26 @@ fn case_of(rng: &mut Rng, frame: Frame) -> Case {
     }
 }
 
-/// The records of a script for settings in register range and memory, without a draw.
+/// The records of a script, without a draw and without registers that are 0.
 pub fn records(settings: &Settings, memory: &[u16]) -> Vec<Vec<u8>> {
-    let interlace = match settings.interlace {
-        Interlace::None => 0,
-        Interlace::RepeatField => 1,
-        Interlace::Video => 2,
-    };
-    let switches = u8::from(settings.linear)
-        | u8::from(settings.display_hidden) << 1
-        | interlace << 2
-        | u8::from(settings.cursor) << 4;
-    let registers = [
-        (0x08, settings.flag),
-        (0x09, settings.top[0]),
-        (0x0A, settings.top[1]),
-        (0x0B, settings.tow[0]),
-        (0x0C, settings.tow[1]),
-        (0x11, settings.vsd << 6 | settings.vsw),
-        (0x12, settings.val),
-        (0x13, settings.vtot),
-        (0x14, settings.hsync),
-        (0x16, settings.hsd),
-        (0x17, settings.htc),
-        (0x18, settings.htd),
-    ];
-    let mut all = vec![vec![3, switches]];
-    for (register, value) in registers {
-        if value != 0 {
-            let [high, low] = value.to_be_bytes();
-            all.push(vec![1, register, high, low]);
-        }
-    }
-    for (index, &word) in memory.iter().enumerate() {
-        if word != 0 {
-            let [_, a2, a1, a0] = (index as u32 * 2).to_be_bytes();
-            let [high, low] = word.to_be_bytes();
-            all.push(vec![2, a2, a1, a0, high, low]);
-        }
-    }
+    let mut all = script::records(settings, memory);
+    all.retain(|record| !matches!(record[..], [1, _, 0, 0]));
     all
 }
 
 /// A random script, well formed, of a frame with any number of faults that a mending can mend.
 pub fn damaged_script(rng: &mut Rng, shape: &Shape) -> Vec<u8> {
     let frame = damaged_frame(rng, shape);
+    well_formed(&frame)
+}
+
+/// A random script, well formed, of a segmented frame.
+pub fn segmented_script(rng: &mut Rng, shape: &Shape) -> Vec<u8> {
+    let frame = segmented_frame(rng, shape);
+    well_formed(&frame)
+}
+
+fn well_formed(frame: &Frame) -> Vec<u8> {
     let mut bytes = records(&frame.settings, &frame.image.memory).concat();
     bytes.push(0);
     bytes

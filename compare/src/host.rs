@@ -4,12 +4,13 @@
 //! its range they refuse: 2 of settings, 3 of a state.
 
 use crate::bus::{Largest, Taken, Totals, Used};
+use crate::convert;
 use crate::desks::{self, Spans};
 use crate::mail;
 use crate::mend;
 use crate::rules::{
-    self, Edition, Effect, Field, Fields, Interlace, Part, Pointer, Refusal, Row, Settings, Sheet,
-    State, Window,
+    self, Edition, Effect, Fields, Interlace, Part, Pointer, Refusal, Row, Settings, Sheet, State,
+    Window,
 };
 use crate::scroll::{self, Scroll};
 pub use crate::trail::PLACES;
@@ -44,6 +45,7 @@ pub const TOTALS: usize = 7;
 pub const BUS_ANSWER: usize = 2;
 pub const MAIL_ANSWER: usize = 1;
 pub const MEND_ANSWER: usize = PREFIX + 5;
+pub const CONVERT_ANSWER: usize = PREFIX + 1;
 
 const ANY: u32 = u32::MAX;
 
@@ -65,7 +67,7 @@ pub const STATE_MOST: [u32; STATE] = {
 };
 
 /// The numbers of refusal that an effect's part can have.
-pub const PART_REFUSALS: [u32; 10] = [2, 3, 4, 7, 8, 9, 10, 11, 12, 13];
+pub const PART_REFUSALS: [u32; 11] = [2, 3, 4, 7, 8, 9, 10, 11, 12, 13, 17];
 
 /// Settings that are not good, for numbers that no settings have.
 const NOT_GOOD: Settings = Settings {
@@ -289,17 +291,6 @@ fn refuse(refusal: Refusal, answer: &mut [u32]) -> u8 {
     refusal.number
 }
 
-fn field_numbers(field: &Field) -> [u32; 6] {
-    [
-        field.sync,
-        field.back,
-        field.rise,
-        field.active,
-        field.front,
-        field.field,
-    ]
-}
-
 /// Places of a sheet's answer: the two fields' parts, and the lines for rows.
 pub const SHEET_EVEN: usize = PREFIX;
 pub const SHEET_ODD: usize = SHEET_EVEN + 6;
@@ -307,8 +298,8 @@ pub const SHEET_LINES: usize = SHEET_ODD + 6;
 
 fn sheet_numbers(sheet: &Sheet) -> [u32; SHEET_ANSWER] {
     let mut numbers = [0; SHEET_ANSWER];
-    numbers[SHEET_EVEN..SHEET_ODD].copy_from_slice(&field_numbers(&sheet.even));
-    numbers[SHEET_ODD..SHEET_LINES].copy_from_slice(&field_numbers(&sheet.odd));
+    numbers[SHEET_EVEN..SHEET_ODD].copy_from_slice(&sheet.even.parts());
+    numbers[SHEET_ODD..SHEET_LINES].copy_from_slice(&sheet.odd.parts());
     numbers[SHEET_LINES..].copy_from_slice(&[
         sheet.lines,
         sheet.horizontal_sync,
@@ -324,8 +315,9 @@ fn sheet_numbers(sheet: &Sheet) -> [u32; SHEET_ANSWER] {
 pub const ROW_LINES: usize = PREFIX;
 pub const ROW_WORDS: usize = PREFIX + 4;
 
+/// The numbers of an accepted row.
 #[inline]
-fn row_numbers(row: &Row) -> [u32; ROW_ANSWER] {
+pub fn row_numbers(row: &Row) -> [u32; ROW_ANSWER] {
     [
         row.row,
         0,
@@ -585,7 +577,8 @@ pub fn write_word(memory: &mut [u16], spans: &Spans, address: u32, word: u16) ->
     }
 }
 
-/// Places of TOW among settings.
+/// Places of TOP and TOW among settings.
+pub const TOP: usize = 5;
 pub const TOW: usize = 7;
 /// Place of a mending's answer that says whether a pointer was changed.
 pub const MEND_CHANGED: usize = PREFIX;
@@ -618,6 +611,32 @@ pub fn mend(settings: &mut [u32], memory: &mut [u16], latch: u16, answer: &mut [
                 second,
                 refusal.number.into(),
             ];
+            0
+        }
+        Err(refusal) => refuse(refusal, answer),
+    }
+}
+
+/// The pointers of a segmented frame turned into linear form, with one mark for each word of memory.
+#[inline(never)]
+pub fn convert(
+    settings: &mut [u32],
+    memory: &mut [u16],
+    marks: &mut [u8],
+    latch: u16,
+    answer: &mut [u32],
+) -> u8 {
+    let Ok(answer) = <&mut [u32; CONVERT_ANSWER]>::try_from(answer) else {
+        return UNFIT;
+    };
+    let Some(mut now) = settings_of(settings) else {
+        return UNFIT;
+    };
+    *answer = [0; CONVERT_ANSWER];
+    match convert::convert(&mut now, memory, marks, latch) {
+        Ok(count) => {
+            settings.copy_from_slice(&settings_numbers(&now));
+            answer[PREFIX] = count;
             0
         }
         Err(refusal) => refuse(refusal, answer),

@@ -264,7 +264,7 @@ fn numbers_that_make_no_effect() {
     assert!(fits([0; PART]));
     assert!(fits([0, 0, 0, 0, 1, 0]) && fits([0, 0, 0, 0, 1, 0xFFFF]));
     for number in 1..=300 {
-        let can = matches!(number, 2..=4 | 7..=13);
+        let can = matches!(number, 2..=4 | 7..=13 | 17);
         assert_eq!(fits([number, 0, 0, 0, 0, 0]), can, "{number}");
         assert_eq!(fits([number, u32::MAX, u32::MAX, 0, 0, 0]), can);
         assert_eq!(fits([number, 1, 2, u32::MAX, 0, 0]), number == 7);

@@ -1,10 +1,14 @@
 //! A second implementation of the display rules: timing, the walk over the blocks,
-//! row effects, soft scroll, two desks on one memory, mending, the bus report, text for mail and the draw program, with a
-//! generator of test cases.
+//! row effects, soft scroll, two desks on one memory, the converter, mending, the bus report, text for mail and the draw
+//! program, with a generator of test cases.
 
 pub mod bus;
+pub mod convert;
+pub mod converted;
 pub mod desks;
+pub mod folder;
 pub mod generate;
+mod header;
 pub mod host;
 pub mod library;
 pub mod mail;
@@ -19,6 +23,8 @@ pub mod vectors;
 
 #[cfg(test)]
 mod bus_tests;
+#[cfg(test)]
+mod convert_tests;
 #[cfg(test)]
 mod desks_tests;
 #[cfg(test)]

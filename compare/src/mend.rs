@@ -42,8 +42,9 @@ pub fn mend(
     };
     let words = match place {
         Place::Tow => std::mem::take(&mut settings.tow),
-        Place::At(first) => [first, step(settings.linear, first)]
-            .map(|address| std::mem::take(&mut memory[address as usize / 2])),
+        Place::At(first) => {
+            [first, step(first)].map(|address| std::mem::take(&mut memory[address as usize / 2]))
+        }
     };
     Ok(Some(Change {
         place,

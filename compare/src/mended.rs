@@ -328,6 +328,10 @@ fn as_they_are(set: &mut Set) {
         s.top = [0xFF00, 1];
         s.tow = 0x9000;
     });
+    set.add("17-as-it-is", &[], "refused 17 row 0 at 000000", |s| {
+        s.segmented = true;
+        s.write(0x10, &[0, 0x9000]).done();
+    });
     set.add("14-as-it-is", &[], "refused 14 row 0 at 000000", |s| {
         s.tow = 0x9000;
         s.write(0x18, &[0x5000]).done();
@@ -344,16 +348,15 @@ fn as_they_are(set: &mut Set) {
 fn several(set: &mut Set) {
     set.add(
         "ignored-bits-are-printed",
-        &["000000 80FF 0181 8", "000100 81FF 0011 7"],
+        &["000000 FF00 0181 8", "000100 FF01 0011 7"],
         "end rows 2 words",
         |s| {
-            s.segmented = true;
-            s.register(0x0B, 0x80FF)
+            s.register(0x0B, 0xFF00)
                 .register(0x0C, 0x0181)
                 .write(0x180, &[0, 0, 0, 0, 0x0100])
                 .row(0x100, 0, &[(0x200, 0, 2, 2)])
                 .text(0x200, b"AB")
-                .write(0x100, &[0x81FF, 0x0011])
+                .write(0x100, &[0xFF01, 0x0011])
                 .done();
         },
     );

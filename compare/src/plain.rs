@@ -1,5 +1,6 @@
 //! The row rules once more in the plainest form: word by word, cell by cell, no shortcuts.
-//! The tests hold the fast form in `rules` against it.
+//! The tests hold the fast form in `rules` against it. Below the checks on settings it draws segmented memory too,
+//! for the converter.
 
 use crate::rules::{Effect, Fields, Part, Pointer, Refusal, Row, Settings, State, Window, CELLS};
 use crate::scroll::{Scroll, Shifted};
@@ -11,15 +12,34 @@ pub struct Drawn {
     pub next: State,
     /// Every word that became the latch, in order.
     pub latched: Vec<u16>,
-    /// Words after which the next one was not 2 further.
-    pub wraps: u32,
     /// Whether a window stood in the row.
     pub window: bool,
+}
+
+/// What a word is read as.
+#[derive(Clone, Copy, Debug, PartialEq, Eq)]
+pub enum Role {
+    /// The first word of a pointer.
+    First,
+    /// Its second word.
+    Second,
+    Other,
+}
+
+/// A word that was wanted, whether or not memory has it.
+#[derive(Clone, Copy, Debug, PartialEq, Eq)]
+pub struct Wanted {
+    pub address: u32,
+    pub role: Role,
+    /// The word before it in the same block or list, if it is not the first.
+    pub after: Option<u32>,
 }
 
 /// What a call met, refused or not.
 #[derive(Debug, Default)]
 pub struct Notes {
+    /// The words that were wanted. Only the last one can be missing.
+    pub wanted: Vec<Wanted>,
     /// The addresses of the words read.
     pub read: Vec<u32>,
     /// Where the pointer begins that the request blames for 7, 8, 9, 10 or 13.
@@ -31,7 +51,6 @@ struct Tape<'a> {
     memory: &'a [u16],
     row: u32,
     notes: &'a mut Notes,
-    wraps: u32,
     latch: u16,
     latched: Vec<u16>,
     cells: Vec<Option<u32>>,
@@ -39,18 +58,27 @@ struct Tape<'a> {
     fill_flag: bool,
 }
 
-/// A word's address, and where the pointer begins that it was come to by.
+/// A word's address, where the pointer begins that it was come to by, and the word read before it from there on.
 #[derive(Clone, Copy)]
 struct At {
     address: u32,
     from: u32,
+    after: Option<u32>,
 }
 
 impl At {
+    /// What a pointer that begins at an address points at, if it is not null.
+    fn new(address: u32, from: u32) -> Option<At> {
+        (address != 0).then_some(At {
+            address,
+            from,
+            after: None,
+        })
+    }
+
     /// The pointer of a state, if it is not null.
     fn of(pointer: Pointer) -> Option<At> {
-        let Pointer { address, from } = pointer;
-        (address != 0).then_some(At { address, from })
+        At::new(pointer.address, pointer.from)
     }
 
     /// A pointer for a state.
@@ -83,7 +111,7 @@ impl Segment {
     }
 }
 
-fn refuse<T>(number: u8, row: u32, address: u32) -> Result<T, Refusal> {
+pub(crate) fn refuse<T>(number: u8, row: u32, address: u32) -> Result<T, Refusal> {
     Err(Refusal {
         number,
         row,
@@ -95,6 +123,15 @@ fn refuse<T>(number: u8, row: u32, address: u32) -> Result<T, Refusal> {
 impl Tape<'_> {
     /// Reads the word at an address and moves the address on.
     fn read(&mut self, at: &mut At) -> Result<u16, Refusal> {
+        self.read_as(at, Role::Other)
+    }
+
+    fn read_as(&mut self, at: &mut At, role: Role) -> Result<u16, Refusal> {
+        self.notes.wanted.push(Wanted {
+            address: at.address,
+            role,
+            after: at.after,
+        });
         match self.memory.get((at.address / 2) as usize) {
             None => {
                 self.notes.blame = at.from;
@@ -114,7 +151,7 @@ impl Tape<'_> {
                     (false, a) if a % 0x1_0000 == 0xFFFE => a - 0xFFFE,
                     (false, a) => a + 2,
                 };
-                self.wraps += u32::from(at.address != before + 2);
+                at.after = Some(before);
                 Ok(word)
             }
         }
@@ -127,24 +164,23 @@ impl Tape<'_> {
     /// Reads the two words of a pointer.
     fn read_pointer(&mut self, at: &mut At) -> Result<Option<At>, Refusal> {
         let from = at.address;
-        let words = self.words(at, 2)?;
-        let address = self.decode(&words);
-        Ok((address != 0).then_some(At { address, from }))
+        let first = self.read_as(at, Role::First)?;
+        let second = self.read_as(at, Role::Second)?;
+        Ok(At::new(self.decode([first, second]), from))
     }
 
     /// A pointer that a register holds.
-    fn register(&self, words: &[u16; 2]) -> Option<At> {
-        let address = self.decode(words);
-        (address != 0).then_some(At { address, from: 0 })
+    fn register(&self, words: [u16; 2]) -> Option<At> {
+        At::new(self.decode(words), 0)
     }
 
-    fn decode(&self, words: &[u16]) -> u32 {
+    fn decode(&self, [first, second]: [u16; 2]) -> u32 {
         let high = if self.settings.linear {
-            words[0] % 256
+            first % 256
         } else {
-            words[0] / 256 % 128
+            first / 256 % 128
         };
-        u32::from(high) * 0x1_0000 + u32::from(words[1] / 2 * 2)
+        u32::from(high) * 0x1_0000 + u32::from(second / 2 * 2)
     }
 
     fn window(&mut self, mut at: At, before: Option<Window>) -> Result<Window, Refusal> {
@@ -290,7 +326,6 @@ impl<'a> Tape<'a> {
             memory,
             row,
             notes,
-            wraps: 0,
             latch: 0,
             latched: Vec::new(),
             cells: vec![None; CELLS],
@@ -300,7 +335,7 @@ impl<'a> Tape<'a> {
     }
 
     /// A main block that can be started from.
-    fn main_block(&mut self, top: &[u16; 2]) -> Result<Main, Refusal> {
+    fn main_block(&mut self, top: [u16; 2]) -> Result<Main, Refusal> {
         let Some(mut at) = self.register(top) else {
             return refuse(6, 0, 0);
         };
@@ -343,6 +378,17 @@ impl Main {
     }
 }
 
+/// Settings that can be drawn from, for a row.
+fn check(settings: &Settings, row: u32) -> Result<(), Refusal> {
+    if !good(settings) {
+        return refuse(2, row, 0);
+    }
+    match settings.linear {
+        true => Ok(()),
+        false => refuse(17, row, 0),
+    }
+}
+
 /// The first state of a frame. What it meets, also where it is refused, is noted.
 pub fn start(
     settings: &Settings,
@@ -350,12 +396,20 @@ pub fn start(
     latch: u16,
     notes: &mut Notes,
 ) -> Result<State, Refusal> {
-    if !good(settings) {
-        return refuse(2, 0, 0);
-    }
+    check(settings, 0)?;
+    begin(settings, memory, latch, notes)
+}
+
+/// The first state of a frame with good settings, segmented or linear.
+pub(crate) fn begin(
+    settings: &Settings,
+    memory: &[u16],
+    latch: u16,
+    notes: &mut Notes,
+) -> Result<State, Refusal> {
     let mut tape = Tape::new(settings, memory, 0, notes);
-    let main = tape.main_block(&settings.top)?;
-    let window = match tape.register(&settings.tow) {
+    let main = tape.main_block(settings.top)?;
+    let window = match tape.register(settings.tow) {
         None => None,
         Some(at) => Some(tape.window(at, None)?),
     };
@@ -407,9 +461,7 @@ pub fn shift(
     soft: [u16; 2],
     last: &Scroll,
 ) -> Result<Shifted, Refusal> {
-    if !good(settings) {
-        return refuse(2, 0, 0);
-    }
+    check(settings, 0)?;
     let range = match last.direction {
         0 => -31..=0,
         1 => 0..=31,
@@ -420,7 +472,7 @@ pub fn shift(
     }
     let mut notes = Notes::default();
     let mut tape = Tape::new(settings, memory, 0, &mut notes);
-    let hard = tape.main_block(&settings.top)?;
+    let hard = tape.main_block(settings.top)?;
     let mut given = Shifted {
         scroll: *last,
         top: settings.top,
@@ -438,7 +490,7 @@ pub fn shift(
     let lines = if sign == 1 {
         tape.first_lines(&hard)?
     } else {
-        let soft = tape.main_block(&soft)?;
+        let soft = tape.main_block(soft)?;
         tape.first_lines(&soft)?
     };
     let (step, frames) = RATES[usize::from(hard.m4() / 0x100 % 16)];
@@ -463,21 +515,30 @@ pub fn row(
     notes: &mut Notes,
 ) -> Result<Drawn, Refusal> {
     let now = &state.fields;
-    let mut tape = Tape {
-        latch: state.latch,
-        fill_code: now.fill_code,
-        fill_flag: now.fill_flag,
-        ..Tape::new(settings, memory, now.row, notes)
-    };
-    if !good(settings) {
-        return refuse(2, now.row, 0);
-    }
+    check(settings, now.row)?;
     if !in_range(now) {
         return refuse(3, now.row, 0);
     }
     if now.lines_left == 0 {
         return refuse(4, now.row, 0);
     }
+    draw(settings, memory, state, notes)
+}
+
+/// The row of a state in range with a line left and good settings, segmented or linear.
+pub(crate) fn draw(
+    settings: &Settings,
+    memory: &[u16],
+    state: &State,
+    notes: &mut Notes,
+) -> Result<Drawn, Refusal> {
+    let now = &state.fields;
+    let mut tape = Tape {
+        latch: state.latch,
+        fill_code: now.fill_code,
+        fill_flag: now.fill_flag,
+        ..Tape::new(settings, memory, now.row, notes)
+    };
     let mut next = *now;
     if let Some(window) = now.window {
         if now.row > window.last_row {
@@ -611,7 +672,6 @@ pub fn row(
             fields: next,
         },
         latched: tape.latched,
-        wraps: tape.wraps,
         window: columns.is_some(),
     })
 }
@@ -642,7 +702,7 @@ pub fn effect(settings: &Settings, memory: &[u16], fields: &Fields) -> (Effect, 
     (Effect { clear, set }, next)
 }
 
-fn good(s: &Settings) -> bool {
+pub(crate) fn good(s: &Settings) -> bool {
     let limits = [
         (s.vsw, 63),
         (s.vsd, 63),

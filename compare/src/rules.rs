@@ -8,9 +8,6 @@ pub const CELLS: usize = 132;
 /// Words that 24-bit byte addresses reach.
 const ADDRESSABLE: usize = 0x80_0000;
 
-/// Words in a page of segmented addressing.
-const PAGE: usize = 0x8000;
-
 const LATCHED: u16 = 0x8000;
 const IGNORE: u16 = 0x2000;
 const BACKGROUND: u32 = 1 << 20;
@@ -66,6 +63,20 @@ pub struct Field {
     pub active: u32,
     pub front: u32,
     pub field: u32,
+}
+
+impl Field {
+    /// Sync, back porch, sync fall to blank rise, active, front porch and the field's length.
+    pub fn parts(&self) -> [u32; 6] {
+        [
+            self.sync,
+            self.back,
+            self.rise,
+            self.active,
+            self.front,
+            self.field,
+        ]
+    }
 }
 
 /// The settings sheet. Horizontal times are in clocks.
@@ -228,22 +239,13 @@ pub fn invokes(flag: u16, code: u8) -> bool {
 }
 
 /// The byte address that a pointer's two words give. 0 points at nothing.
-pub fn pointer(linear: bool, first: u16, second: u16) -> u32 {
-    let high = if linear {
-        first & 0xFF
-    } else {
-        first >> 8 & 0x7F
-    };
-    u32::from(high) << 16 | u32::from(second & !1)
+pub fn pointer(first: u16, second: u16) -> u32 {
+    u32::from(first & 0xFF) << 16 | u32::from(second & !1)
 }
 
 /// The address of the word after the one at an even address.
-pub fn step(linear: bool, address: u32) -> u32 {
-    if linear {
-        (address + 2) & 0xFF_FFFF
-    } else {
-        (address & 0xFF_0000) | ((address + 2) & 0xFFFF)
-    }
+pub fn step(address: u32) -> u32 {
+    (address + 2) & 0xFF_FFFF
 }
 
 /// The parts of an even or odd field, of good settings.
@@ -332,10 +334,10 @@ impl Stop {
     }
 
     /// The word at an address is missing.
-    fn missing(linear: bool, address: u32, origin: Origin) -> Stop {
+    fn missing(address: u32, origin: Origin) -> Stop {
         Stop {
             address,
-            ..Stop::blaming(7, origin.address(linear))
+            ..Stop::blaming(7, origin.address())
         }
     }
 
@@ -366,32 +368,22 @@ impl Origin {
         Origin { block, words }
     }
 
-    fn address(self, linear: bool) -> u32 {
-        let plain = self.block + 2 * self.words;
-        if linear {
-            plain & 0xFF_FFFF
-        } else {
-            self.block & 0xFF_0000 | plain & 0xFFFF
-        }
+    fn address(self) -> u32 {
+        (self.block + 2 * self.words) & 0xFF_FFFF
     }
 }
 
 impl Pointer {
     /// The pointer of two words that stand so many words on in a block.
-    pub(crate) fn inside(
-        linear: bool,
-        [first, second]: [u16; 2],
-        block: u32,
-        words: u32,
-    ) -> Pointer {
-        match pointer(linear, first, second) {
+    pub(crate) fn inside([first, second]: [u16; 2], block: u32, words: u32) -> Pointer {
+        match pointer(first, second) {
             0 => Pointer {
                 address: 0,
                 from: 0,
             },
             address => Pointer {
                 address,
-                from: Origin::inside(block, words).address(linear),
+                from: Origin::inside(block, words).address(),
             },
         }
     }
@@ -405,7 +397,6 @@ impl Pointer {
 /// that can be read without wrapping; it ends at word number `end`.
 pub(crate) struct Reader<'m> {
     memory: &'m [u16],
-    linear: bool,
     origin: Origin,
     rest: &'m [u16],
     end: usize,
@@ -417,15 +408,9 @@ pub(crate) struct Reader<'m> {
 
 impl<'m> Reader<'m> {
     #[inline]
-    pub(crate) fn open(
-        memory: &'m [u16],
-        linear: bool,
-        address: u32,
-        origin: Origin,
-    ) -> Reader<'m> {
+    pub(crate) fn open(memory: &'m [u16], address: u32, origin: Origin) -> Reader<'m> {
         let mut reader = Reader {
             memory,
-            linear,
             origin,
             rest: &[],
             end: 0,
@@ -438,12 +423,7 @@ impl<'m> Reader<'m> {
 
     #[inline]
     fn stretch(&mut self, index: usize) {
-        let wrap = if self.linear {
-            ADDRESSABLE
-        } else {
-            (index | (PAGE - 1)) + 1
-        };
-        let end = wrap.min(self.memory.len()).max(index);
+        let end = ADDRESSABLE.min(self.memory.len()).max(index);
         self.rest = self.memory.get(index..end).unwrap_or(&[]);
         self.end = end;
         self.begin = index;
@@ -469,7 +449,7 @@ impl<'m> Reader<'m> {
         if index == self.begin {
             return index as u32 * 2;
         }
-        step(self.linear, (index as u32 - 1) * 2)
+        step((index as u32 - 1) * 2)
     }
 
     /// Goes on after the end of a stretch, or says which word is missing.
@@ -480,7 +460,7 @@ impl<'m> Reader<'m> {
         self.before += self.index() - self.begin;
         self.stretch(next);
         if self.rest.is_empty() {
-            return Err(Stop::missing(self.linear, next as u32 * 2, self.origin));
+            return Err(Stop::missing(next as u32 * 2, self.origin));
         }
         Ok(())
     }
@@ -529,14 +509,13 @@ impl<'m> Reader<'m> {
 
 /// A window block, read and judged. `before` is the window before it.
 fn window_block(
-    settings: &Settings,
     memory: &[u16],
     block: Pointer,
     before: Option<&Window>,
     trail: &mut impl Track,
 ) -> Result<Window, Stop> {
-    let (linear, at) = (settings.linear, block.address);
-    let words: [u16; 6] = Reader::open(memory, linear, at, block.origin()).block()?;
+    let at = block.address;
+    let words: [u16; 6] = Reader::open(memory, at, block.origin()).block()?;
     trail.run(at, words.len());
     let [first_row, last_row] = words[4].to_be_bytes().map(u32::from);
     let [first_column, last_column] = words[5].to_be_bytes().map(u32::from);
@@ -550,8 +529,8 @@ fn window_block(
         last_row,
         first_column,
         last_column,
-        next_row: Pointer::inside(linear, [words[2], words[3]], at, 2),
-        next_block: Pointer::inside(linear, [words[0], words[1]], at, 0),
+        next_row: Pointer::inside([words[2], words[3]], at, 2),
+        next_block: Pointer::inside([words[0], words[1]], at, 0),
         number: before.map_or(0, |window| window.number + 1),
     })
 }
@@ -564,12 +543,12 @@ pub(crate) struct Main {
 }
 
 /// The main block at the top of a page, read and judged: 6, 7, 14.
-pub(crate) fn main_block(linear: bool, memory: &[u16], top: [u16; 2]) -> Result<Main, Stop> {
-    let top = pointer(linear, top[0], top[1]);
+pub(crate) fn main_block(memory: &[u16], top: [u16; 2]) -> Result<Main, Stop> {
+    let top = pointer(top[0], top[1]);
     if top == 0 {
         return Err(Stop::bare(6));
     }
-    let words: [u16; 7] = Reader::open(memory, linear, top, Origin::REGISTER)
+    let words: [u16; 7] = Reader::open(memory, top, Origin::REGISTER)
         .block()
         .map_err(|stop| Stop {
             blame: Blame::Nobody,
@@ -580,7 +559,7 @@ pub(crate) fn main_block(linear: bool, memory: &[u16], top: [u16; 2]) -> Result<
     }
     Ok(Main {
         words,
-        first: Pointer::inside(linear, [words[0], words[1]], top, 0),
+        first: Pointer::inside([words[0], words[1]], top, 0),
         at: top,
     })
 }
@@ -596,7 +575,7 @@ pub fn start(
     let list = list_of(list).map_err(|stop| stop.at_row(0))?;
     let mut trail = Trail::new();
     let start = begin(settings, memory, latch, &mut trail).map_err(|stop| stop.at_row(0))?;
-    trail.write(settings, memory, list);
+    trail.write(settings.flag, memory, list);
     Ok(start)
 }
 
@@ -612,6 +591,17 @@ pub(crate) fn buffer_of(buffer: &mut [u32]) -> Result<&mut [u32; CELLS], Stop> {
     buffer.try_into().map_err(|_| Stop::bare(1))
 }
 
+/// Settings that can be drawn from: 2, 17.
+pub(crate) fn check(settings: &Settings) -> Result<(), Stop> {
+    if !settings.good() {
+        return Err(Stop::bare(2));
+    }
+    if !settings.linear {
+        return Err(Stop::bare(17));
+    }
+    Ok(())
+}
+
 /// A start's checks from 2 on.
 pub(crate) fn begin(
     settings: &Settings,
@@ -619,23 +609,20 @@ pub(crate) fn begin(
     latch: u16,
     trail: &mut Trail,
 ) -> Result<Start, Stop> {
-    if !settings.good() {
-        return Err(Stop::bare(2));
-    }
-    let linear = settings.linear;
+    check(settings)?;
     let Main {
         words: main,
         first,
         at,
-    } = main_block(linear, memory, settings.top)?;
+    } = main_block(memory, settings.top)?;
     trail.run(at, main.len());
     let tow = Pointer {
-        address: pointer(linear, settings.tow[0], settings.tow[1]),
+        address: pointer(settings.tow[0], settings.tow[1]),
         from: 0,
     };
     let window = match tow.address {
         0 => None,
-        _ => Some(window_block(settings, memory, tow, None, trail)?),
+        _ => Some(window_block(memory, tow, None, trail)?),
     };
     let [cursor_x, cursor_y] = main[2].to_be_bytes();
     let fields = Fields {
@@ -715,7 +702,6 @@ struct Segments<'a> {
     words: &'a [[u16; 5]],
     /// Where the first one begins.
     origin: Origin,
-    linear: bool,
     display_hidden: bool,
 }
 
@@ -727,7 +713,6 @@ impl<'a> Segments<'a> {
         Segments {
             words: &[],
             origin: Origin::REGISTER,
-            linear: settings.linear,
             display_hidden: settings.display_hidden,
         }
     }
@@ -764,7 +749,6 @@ impl<'a> Segments<'a> {
         let Segments {
             words,
             origin: Origin { block, words: from },
-            linear,
             display_hidden,
         } = *self;
         words
@@ -772,10 +756,10 @@ impl<'a> Segments<'a> {
             .zip((from..).step_by(5))
             .map(move |(words, place)| {
                 let [length, visible] = words[4].to_be_bytes();
-                let code = pointer(linear, words[0], words[1]);
+                let code = pointer(words[0], words[1]);
                 Segment {
                     code,
-                    list: pointer(linear, words[2], words[3]),
+                    list: pointer(words[2], words[3]),
                     length,
                     visible,
                     width: if code != 0 && display_hidden {
@@ -852,16 +836,13 @@ fn prepare<'a>(
     plan: &mut Plan<'a>,
     trail: &mut impl Track,
 ) -> Result<(), Stop> {
-    if !settings.good() {
-        return Err(Stop::bare(2));
-    }
+    check(settings)?;
     if !fields.in_range() {
         return Err(Stop::bare(3));
     }
     if fields.lines_left == 0 {
         return Err(Stop::bare(4));
     }
-    let linear = settings.linear;
     let [spare_back, spare_over] = spare;
     let next = &mut plan.next;
 
@@ -872,7 +853,7 @@ fn prepare<'a>(
                 0 => None,
                 _ => {
                     let block = window.next_block;
-                    Some(window_block(settings, memory, block, Some(&window), trail)?)
+                    Some(window_block(memory, block, Some(&window), trail)?)
                 }
             };
         }
@@ -880,23 +861,22 @@ fn prepare<'a>(
 
     if fields.next_row.address != 0 {
         let block = fields.next_row.address;
-        let mut reader = Reader::open(memory, linear, block, fields.next_row.origin());
+        let mut reader = Reader::open(memory, block, fields.next_row.origin());
         let [link0, link1, head] = reader.block()?;
         let (redefinition, segments) = if head & 0x8000 != 0 {
             let [first, second] = reader.block()?;
-            (pointer(linear, first, second), 5)
+            (pointer(first, second), 5)
         } else {
             (0, 3)
         };
         let segments = Origin::inside(block, segments);
         plan.back
             .read(&mut reader, head & 15, segments, spare_back)?;
-        next.next_row = Pointer::inside(linear, [link0, link1], block, 0);
+        next.next_row = Pointer::inside([link0, link1], block, 0);
         trail.run(block, reader.count());
         if redefinition != 0 {
             let origin = Origin::inside(block, 3);
-            let [attributes, lines, cursor] =
-                Reader::open(memory, linear, redefinition, origin).block()?;
+            let [attributes, lines, cursor] = Reader::open(memory, redefinition, origin).block()?;
             next.attributes = u32::from(attributes & 0x3FF);
             next.scan_lines = u32::from(lines & 31) + 1;
             next.curs = u32::from(cursor >> 8 & 31);
@@ -915,13 +895,13 @@ fn prepare<'a>(
             let end = window.last_column as usize + 1;
             if window.next_row.address != 0 {
                 let block = window.next_row.address;
-                let mut reader = Reader::open(memory, linear, block, window.next_row.origin());
+                let mut reader = Reader::open(memory, block, window.next_row.origin());
                 let [link0, link1, head] = reader.block()?;
                 let segments = Origin::inside(block, 3);
                 plan.over
                     .read(&mut reader, head & 15, segments, spare_over)?;
                 let from = window.next_row.from;
-                window.next_row = Pointer::inside(linear, [link0, link1], block, 0);
+                window.next_row = Pointer::inside([link0, link1], block, 0);
                 trail.run(block, reader.count());
                 if plan.over.sum(from)? > end - first {
                     return Err(Stop::blaming_window(11));
@@ -964,20 +944,20 @@ impl List {
     }
 
     /// Takes the word for a fill run, which must have bit 15; it comes with its address.
-    fn fill_word(&mut self, memory: &[u16], linear: bool) -> Result<Option<(u16, u32)>, Stop> {
+    fn fill_word(&mut self, memory: &[u16]) -> Result<Option<(u16, u32)>, Stop> {
         let Some(address) = self.next else {
             return Ok(None);
         };
         let Some(&word) = memory.get(address as usize / 2) else {
-            return Err(Stop::missing(linear, address, self.origin));
+            return Err(Stop::missing(address, self.origin));
         };
         if word & LATCHED == 0 {
             return Err(Stop {
                 address,
-                ..Stop::blaming(13, self.origin.address(linear))
+                ..Stop::blaming(13, self.origin.address())
             });
         }
-        self.next = Some(step(linear, address));
+        self.next = Some(step(address));
         Ok(Some((word, address)))
     }
 }
@@ -1035,7 +1015,6 @@ fn look(word: u16) -> u32 {
 /// Draws the cells of a row.
 struct Draw<'m> {
     memory: &'m [u16],
-    linear: bool,
     flag: u16,
     /// The ignore bit, or 0 where Display Hidden is set.
     hide: u16,
@@ -1051,7 +1030,7 @@ impl Draw<'_> {
     /// Gives how many cells they took.
     #[inline(never)]
     fn plain_codes(&mut self, segment: &Segment, from: usize, source: u32) -> Result<usize, Stop> {
-        let mut codes = Reader::open(self.memory, self.linear, segment.code, segment.origin);
+        let mut codes = Reader::open(self.memory, segment.code, segment.origin);
         let room = if self.latch & self.hide != 0 {
             0
         } else {
@@ -1090,8 +1069,8 @@ impl Draw<'_> {
         source: u32,
         list: &mut List,
     ) -> Result<usize, Stop> {
-        let mut codes = Reader::open(self.memory, self.linear, segment.code, segment.origin);
-        let mut attributes = Reader::open(self.memory, self.linear, segment.list, list.origin);
+        let mut codes = Reader::open(self.memory, segment.code, segment.origin);
+        let mut attributes = Reader::open(self.memory, segment.list, list.origin);
         let mut cells = self.cells[from..from + usize::from(segment.width)].iter_mut();
         let [mask, value] = self.flag.to_be_bytes().map(|byte| u16::from(byte) * 0x101);
         let hide = self.hide;
@@ -1175,7 +1154,7 @@ impl Pen for Draw<'_> {
     fn fill(&mut self, from: usize, end: usize, list: &mut List) -> Result<(), Stop> {
         if from < end {
             if self.fill_flag {
-                if let Some((word, address)) = list.fill_word(self.memory, self.linear)? {
+                if let Some((word, address)) = list.fill_word(self.memory)? {
                     self.latch = word;
                     self.trail.run(address, 1);
                 }
@@ -1201,7 +1180,7 @@ pub fn row(
     let mut trail = Trail::new();
     let answer =
         drawn(settings, memory, state, buffer, &mut trail).map_err(|stop| stop.at_row(row))?;
-    trail.write(settings, memory, list);
+    trail.write(settings.flag, memory, list);
     Ok(answer)
 }
 
@@ -1220,7 +1199,6 @@ pub(crate) fn drawn(
     prepare(settings, memory, fields, &mut spare, &mut plan, trail)?;
     let mut draw = Draw {
         memory,
-        linear: settings.linear,
         flag: settings.flag,
         hide: if settings.display_hidden { 0 } else { IGNORE },
         fill_code: u32::from(fields.fill_code),
@@ -1254,7 +1232,6 @@ pub(crate) fn drawn(
 /// Follows a row's latch without drawing its cells.
 struct Trace<'m> {
     memory: &'m [u16],
-    linear: bool,
     flag: u16,
     fill_flag: bool,
     /// Whether it matters how many characters a segment shows: only where a fill run
@@ -1288,7 +1265,7 @@ impl Trace<'_> {
     #[inline]
     fn plain_codes(&mut self, segment: &Segment) -> Result<Shown, Stop> {
         let length = usize::from(segment.length);
-        let mut codes = Reader::open(self.memory, self.linear, segment.code, segment.origin);
+        let mut codes = Reader::open(self.memory, segment.code, segment.origin);
         let mut left = length.div_ceil(2);
         while left > 0 {
             left -= codes.together(left)?.len();
@@ -1303,8 +1280,8 @@ impl Trace<'_> {
     /// The codes of a segment with a list.
     #[inline]
     fn listed_codes(&mut self, segment: &Segment, list: &mut List) -> Result<Shown, Stop> {
-        let mut codes = Reader::open(self.memory, self.linear, segment.code, segment.origin);
-        let mut attributes = Reader::open(self.memory, self.linear, segment.list, list.origin);
+        let mut codes = Reader::open(self.memory, segment.code, segment.origin);
+        let mut attributes = Reader::open(self.memory, segment.list, list.origin);
         let mut shown = Shown::default();
         let mut left = usize::from(segment.length);
         while left > 0 {
@@ -1480,7 +1457,7 @@ impl Pen for Trace<'_> {
     #[inline]
     fn fill(&mut self, from: usize, end: usize, list: &mut List) -> Result<(), Stop> {
         if self.fill_flag && from < end {
-            if let Some((word, _)) = list.fill_word(self.memory, self.linear)? {
+            if let Some((word, _)) = list.fill_word(self.memory)? {
                 self.latch(word);
             }
         }
@@ -1523,7 +1500,6 @@ pub fn effect(settings: &Settings, memory: &[u16], fields: &Fields) -> (Effect, 
     }
     let mut trace = Trace {
         memory,
-        linear: settings.linear,
         flag: settings.flag,
         fill_flag: fields.fill_flag,
         counting: fields.fill_flag && !settings.display_hidden,

@@ -1,9 +1,10 @@
-//! The draw program and the mending program: each reads a script and gives its whole output.
+//! The draw program, the mending program and the converting program: each reads a script and gives its whole output.
 
+use crate::convert::{self, Screen};
 use crate::mend::mend;
-use crate::rules::{self, Edition, Interlace, Refusal, Settings, CELLS};
+use crate::rules::{self, Edition, Interlace, Refusal, Row, Settings, CELLS};
 use crate::trail::PLACES;
-use std::io::Write;
+use std::io::{self, Read, Write};
 
 /// Words of memory in the draw program.
 pub const MEMORY: usize = 16_384;
@@ -113,6 +114,54 @@ fn set_switches(settings: &mut Settings, switches: u8) -> bool {
     true
 }
 
+/// The records of a script for settings in register range and memory, without a draw: switches, registers, then the words
+/// that are not 0.
+pub fn records(settings: &Settings, memory: &[u16]) -> Vec<Vec<u8>> {
+    let interlace = match settings.interlace {
+        Interlace::None => 0,
+        Interlace::RepeatField => 1,
+        Interlace::Video => 2,
+    };
+    let switches = u8::from(settings.linear)
+        | u8::from(settings.display_hidden) << 1
+        | interlace << 2
+        | u8::from(settings.cursor) << 4;
+    let registers = [
+        (0x08, settings.flag),
+        (0x09, settings.top[0]),
+        (0x0A, settings.top[1]),
+        (0x0B, settings.tow[0]),
+        (0x0C, settings.tow[1]),
+        (0x11, settings.vsd << 6 | settings.vsw),
+        (0x12, settings.val),
+        (0x13, settings.vtot),
+        (0x14, settings.hsync),
+        (0x16, settings.hsd),
+        (0x17, settings.htc),
+        (0x18, settings.htd),
+    ];
+    let mut all = vec![vec![3, switches]];
+    for (register, value) in registers {
+        let [high, low] = value.to_be_bytes();
+        all.push(vec![1, register, high, low]);
+    }
+    for (index, &word) in memory.iter().enumerate() {
+        if word != 0 {
+            let [_, a2, a1, a0] = (index as u32 * 2).to_be_bytes();
+            let [high, low] = word.to_be_bytes();
+            all.push(vec![2, a2, a1, a0, high, low]);
+        }
+    }
+    all
+}
+
+/// A program: a script on standard input, its output on standard output.
+pub fn program(output: fn(&[u8]) -> Vec<u8>) -> io::Result<()> {
+    let mut input = Vec::new();
+    io::stdin().read_to_end(&mut input)?;
+    io::stdout().write_all(&output(&input))
+}
+
 /// The whole output of the draw program for a script.
 pub fn run(input: &[u8]) -> Vec<u8> {
     output(input, |_, _| {})
@@ -139,32 +188,87 @@ pub fn mended(input: &[u8]) -> Vec<u8> {
 
 /// The output for a script, with what is done before it is drawn.
 fn output(input: &[u8], before: impl FnOnce(&mut Script, &mut Vec<u8>)) -> Vec<u8> {
+    unless_refused(input, |script, out| {
+        before(script, out);
+        draw(&script.settings, &script.memory, out)
+    })
+}
+
+/// The whole output of the converting program for a script: the script of the same screen with linear memory, or a line that
+/// says why there is none.
+pub fn converted(input: &[u8]) -> Vec<u8> {
+    unless_refused(input, |script, out| {
+        let Script { settings, memory } = script;
+        convert::convert(settings, memory, &mut [0; MEMORY], 0)?;
+        out.extend(records(settings, memory).concat());
+        out.push(0);
+        Ok(())
+    })
+}
+
+/// What the draw program would print for a script with good settings if it drew segmented memory.
+pub fn drawn_below(input: &[u8]) -> Vec<u8> {
+    unless_refused(input, |script, out| {
+        let Screen { rows, read, ended } = convert::screen(&script.settings, &script.memory, 0);
+        for (row, cells) in &rows {
+            put_row(out, row, &cells[..script.settings.columns()]);
+        }
+        ended?;
+        put_end(out, rows.len(), read.len());
+        Ok(())
+    })
+}
+
+/// What is done with a script, then the line of a refusal.
+fn unless_refused(
+    input: &[u8],
+    run: impl FnOnce(&mut Script, &mut Vec<u8>) -> Result<(), Refusal>,
+) -> Vec<u8> {
     let mut out = Vec::new();
     match parse(input) {
         Err(offset) => line(&mut out, format_args!("refused script at {offset}")),
         Ok(mut script) => {
-            before(&mut script, &mut out);
-            draw_to(&script, &mut out);
+            if let Err(refusal) = run(&mut script, &mut out) {
+                put_refusal(&mut out, &refusal);
+            }
         }
     }
     out
 }
 
-/// The rows of a script's frame, then its end or its refusal.
-fn draw_to(script: &Script, out: &mut Vec<u8>) {
-    if let Err(refusal) = draw(&script.settings, &script.memory, out) {
-        let Refusal {
-            number,
-            row,
-            address,
-            from,
-        } = refusal;
-        let told = format!("refused {number} row {row} at {address:06X}");
-        match number {
-            7 => line(out, format_args!("{told} from {from:06X}")),
-            _ => line(out, format_args!("{told}")),
-        }
+fn put_refusal(out: &mut Vec<u8>, refusal: &Refusal) {
+    let Refusal {
+        number,
+        row,
+        address,
+        from,
+    } = refusal;
+    let told = format!("refused {number} row {row} at {address:06X}");
+    match number {
+        7 => line(out, format_args!("{told} from {from:06X}")),
+        _ => line(out, format_args!("{told}")),
     }
+}
+
+fn put_row(out: &mut Vec<u8>, row: &Row, shown: &[u32]) {
+    line(
+        out,
+        format_args!(
+            "row {} lines {} attr {:03X} words {}",
+            row.row, row.lines, row.attributes, row.words
+        ),
+    );
+    for (column, cell) in shown.iter().enumerate() {
+        if column > 0 {
+            out.push(b' ');
+        }
+        let _ = write!(out, "{cell:08X}");
+    }
+    out.push(b'\n');
+}
+
+fn put_end(out: &mut Vec<u8>, rows: usize, words: usize) {
+    line(out, format_args!("end rows {rows} words {words}"));
 }
 
 fn line(out: &mut Vec<u8>, text: std::fmt::Arguments) {
@@ -182,23 +286,10 @@ fn draw(settings: &Settings, memory: &[u16], out: &mut Vec<u8>) -> Result<(), Re
     let mut cells = [0; CELLS];
     while state.fields.lines_left > 0 {
         let row = rules::row(settings, memory, &mut state, &mut cells, &mut list)?;
-        line(
-            out,
-            format_args!(
-                "row {} lines {} attr {:03X} words {}",
-                row.row, row.lines, row.attributes, row.words
-            ),
-        );
-        for (column, cell) in cells[..settings.columns()].iter().enumerate() {
-            if column > 0 {
-                out.push(b' ');
-            }
-            let _ = write!(out, "{cell:08X}");
-        }
-        out.push(b'\n');
+        put_row(out, &row, &cells[..settings.columns()]);
         rows += 1;
         words += row.words;
     }
-    line(out, format_args!("end rows {rows} words {words}"));
+    put_end(out, rows, words as usize);
     Ok(())
 }

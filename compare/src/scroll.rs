@@ -1,8 +1,8 @@
 //! Soft scroll of the background: the shift call before a frame, and the row beside the cut.
 
 use crate::rules::{
-    self, begin, buffer_of, drawn, list_of, main_block, pointer, Main, Origin, Reader, Refusal,
-    Row, Settings, State, Stop, SCROLL,
+    self, begin, buffer_of, check, drawn, list_of, main_block, pointer, Main, Origin, Reader,
+    Refusal, Row, Settings, State, Stop, SCROLL,
 };
 use crate::trail::Trail;
 
@@ -54,14 +54,11 @@ fn shifted(
     soft: [u16; 2],
     last: &Scroll,
 ) -> Result<Shifted, Stop> {
-    if !settings.good() {
-        return Err(Stop::bare(2));
-    }
+    check(settings)?;
     if !last.in_range() {
         return Err(Stop::bare(3));
     }
-    let linear = settings.linear;
-    let main = main_block(linear, memory, settings.top)?;
+    let main = main_block(memory, settings.top)?;
     let m4 = main.words[4];
     let up = m4 & UP != 0;
     let direction = u32::from(up);
@@ -78,9 +75,9 @@ fn shifted(
     }
     // Up, the hard list's first row leaves; down, the soft list's enters.
     let lines = if up {
-        first_lines(linear, memory, &main)?
+        first_lines(memory, &main)?
     } else {
-        first_lines(linear, memory, &main_block(linear, memory, soft)?)?
+        first_lines(memory, &main_block(memory, soft)?)?
     };
     let from = if last.direction == direction {
         last
@@ -123,23 +120,23 @@ fn advance(m4: u16, gone: u32, phase: u32) -> (u32, u32) {
 
 /// The scan lines of the first row of a main block's list. Its block is read whole, then its
 /// redefinition; neither is judged.
-fn first_lines(linear: bool, memory: &[u16], main: &Main) -> Result<u32, Stop> {
+fn first_lines(memory: &[u16], main: &Main) -> Result<u32, Stop> {
     let mut lines = main.words[6];
     let block = main.first.address;
     if block != 0 {
-        let mut reader = Reader::open(memory, linear, block, main.first.origin());
+        let mut reader = Reader::open(memory, block, main.first.origin());
         let [_, _, head] = reader.block()?;
         let mut redefinition = 0;
         if head & 0x8000 != 0 {
             let [first, second] = reader.block()?;
-            redefinition = pointer(linear, first, second);
+            redefinition = pointer(first, second);
         }
         for _ in 0..head & 15 {
             let _: [u16; 5] = reader.block()?;
         }
         if redefinition != 0 {
             let origin = Origin::inside(block, 3);
-            [_, lines, _] = Reader::open(memory, linear, redefinition, origin).block()?;
+            [_, lines, _] = Reader::open(memory, redefinition, origin).block()?;
         }
     }
     Ok(u32::from(lines & 31) + 1)
@@ -190,6 +187,6 @@ fn first_row(
     let mut trail = Trail::new();
     let mut state = begin(settings, memory, latch, &mut trail)?.state;
     let row = drawn(settings, memory, &mut state, buffer, &mut trail)?;
-    trail.write(settings, memory, list);
+    trail.write(settings.flag, memory, list);
     Ok(row)
 }

@@ -366,7 +366,7 @@ fn beside_over_slices() {
 #[test]
 fn random_shifts() {
     let mut rng = Rng::new(6);
-    let (mut statuses, mut ended, mut moved) = ([0; 15], 0, [0; 2]);
+    let (mut statuses, mut ended, mut moved) = ([0; 18], 0, [0; 2]);
     for n in 0..6_000 {
         let shape = match n % 300 {
             0 => Shape::WHOLE,
@@ -405,7 +405,7 @@ fn random_shifts() {
         }
     }
     println!("shifts: {statuses:?}, ended {ended}, moved {moved:?}");
-    for number in [0, 2, 3, 6, 7, 14] {
+    for number in [0, 2, 3, 6, 7, 14, 17] {
         assert!(statuses[number] > 300, "{number}: {statuses:?}");
     }
     assert!(ended > 10_000 && moved[0] > 10_000 && moved[1] > 10_000);

@@ -1,12 +1,14 @@
 //! The marked examples, sheet S, the misreadings, and random comparisons.
 
 use crate::generate::{self, Case, Rng, Shape};
+use crate::mail;
 use crate::plain::{self, Notes};
 use crate::rules::{
-    self, effect, invokes, pointer, sheet, step, Edition, Effect, Field, Fields, Interlace, Part,
-    Pointer, Refusal, Row, Settings, Sheet, Start, State, Window, CELLS,
+    self, effect, invokes, pointer, sheet, step, Edition, Effect, Fields, Interlace, Part, Pointer,
+    Refusal, Row, Settings, Sheet, Start, State, Window, CELLS,
 };
 use crate::script::{self, UNSET};
+use crate::scroll::{self, Scroll};
 use crate::trail::PLACES;
 use crate::vectors::{self, sheet_s};
 
@@ -161,17 +163,14 @@ fn p2_flag_ff7f() {
 
 #[test]
 fn p3_address_step() {
-    assert_eq!(step(true, 0x00_FFFE), 0x01_0000);
-    assert_eq!(step(false, 0x00_FFFE), 0);
-    assert_eq!(step(true, 0xFF_FFFE), 0);
-    assert_eq!(step(false, 0x7F_FFFE), 0x7F_0000);
+    assert_eq!(step(0x00_FFFE), 0x01_0000);
+    assert_eq!(step(0xFF_FFFE), 0);
 }
 
 #[test]
 fn p4_pointer_first_word() {
-    assert_eq!(pointer(false, 0x0123, 0), 0x01_0000);
-    assert_eq!(pointer(true, 0x0123, 0), 0x23_0000);
-    assert_eq!(pointer(false, 0x80FF, 1), 0);
+    assert_eq!(pointer(0x0123, 0), 0x23_0000);
+    assert_eq!(pointer(0xFF00, 1), 0);
 }
 
 #[test]
@@ -221,24 +220,12 @@ fn p5_p6_rows_of_s() {
 fn p7_timing_of_s() {
     let s = script::parse(&sheet_s()).unwrap();
     let got = sheet(&s.settings).unwrap();
-    assert_eq!(parts(&got.even), [2, 2, 34, 32, 8, 44]);
+    assert_eq!(got.even.parts(), [2, 2, 34, 32, 8, 44]);
     assert_eq!(got.even, got.odd);
     assert_eq!(got.lines, 16);
     assert_eq!((got.horizontal_sync, got.horizontal_period), (1, 8));
     assert_eq!((got.blank_rise, got.blank_fall), (6, 2));
     assert_eq!(got.invoking, 128);
-}
-
-/// Sync, back porch, sync fall to blank rise, active, front porch and the field's length.
-fn parts(field: &Field) -> [u32; 6] {
-    [
-        field.sync,
-        field.back,
-        field.rise,
-        field.active,
-        field.front,
-        field.field,
-    ]
 }
 
 /// P8's settings.
@@ -264,14 +251,14 @@ fn second_edition_interlaced() {
             ..P8
         };
         let got = sheet(&settings).unwrap();
-        assert_eq!(parts(&got.even), [6, 33, 513, 480, 6, 525]);
-        assert_eq!(parts(&got.odd), [6, 34, 514, 480, 5, 525]);
+        assert_eq!(got.even.parts(), [6, 33, 513, 480, 6, 525]);
+        assert_eq!(got.odd.parts(), [6, 34, 514, 480, 5, 525]);
         let first = Settings {
             edition: Edition::Am8052,
             ..settings
         };
         let Sheet { even, odd, .. } = sheet(&first).unwrap();
-        assert_eq!(parts(&even), [6, 34, 514, 480, 5, 525]);
+        assert_eq!(even.parts(), [6, 34, 514, 480, 5, 525]);
         // Nothing else differs: lines for rows, clocks, invoking codes.
         assert_eq!(sheet(&first), Ok(Sheet { even, odd, ..got }));
     }
@@ -360,7 +347,7 @@ fn fields_of_both_editions() {
             continue;
         };
         for field in [sheet.even, sheet.odd] {
-            let [sync, back, rise, active, front, length] = parts(&field);
+            let [sync, back, rise, active, front, length] = field.parts();
             assert_eq!(sync + back + active + front, length);
             assert_eq!(rise, back + active);
             let half = settings.interlace != Interlace::None;
@@ -376,7 +363,7 @@ fn fields_of_both_editions() {
 fn p8_timing_interlaced_video() {
     let settings = P8;
     let got = sheet(&settings).unwrap();
-    assert_eq!(parts(&got.even), [6, 34, 514, 480, 5, 525]);
+    assert_eq!(got.even.parts(), [6, 34, 514, 480, 5, 525]);
     assert_eq!(got.even, got.odd);
     assert_eq!(got.lines, 480);
     assert_eq!(got.invoking, 256);
@@ -647,19 +634,19 @@ fn segments_of_no_width_at_the_edges_are_covered() {
 
 #[test]
 fn lists_wrap() {
-    // Segmented: from the end of page 0 to its first word.
+    // From FFFFFE to the first word.
     let mut board = Board::new(0x0020);
-    board.memory.resize(0x8000, 0);
+    board.memory.resize(0x80_0000, 0);
     board
         .row(0x100, 0, &[(0xFFFE, 0, 4, 4)])
-        .write(0xFFFE, &[0x4142])
+        .write(0x106, &[0xFF])
+        .write(0xFF_FFFE, &[0x4142])
         .write(0, &[0x4344]);
-    let segmented = Settings {
-        linear: false,
-        ..wide()
-    };
-    let cells = board.first_row(&segmented, 0).unwrap();
+    let cells = board.first_row(&wide(), 0).unwrap();
     assert_eq!(cells[..4], [0x100041, 0x100042, 0x100043, 0x100044]);
+    // From the end of a page to the next one.
+    board.memory.truncate(0x8000);
+    board.write(0x106, &[0]);
     let missing = Refusal {
         number: 7,
         row: 0,
@@ -672,18 +659,15 @@ fn lists_wrap() {
 
 #[test]
 fn fill_words_wrap_to_a_place_that_is_no_null() {
-    // The list's second word lies at 0 of page 0: still a list.
+    // The list's second word lies at 0: still a list.
     let mut board = Board::new(0x0120);
-    board.memory.resize(0x8000, 0);
+    board.memory.resize(0x80_0000, 0);
     board
         .row(0x100, 0, &[(0, 0xFFFE, 0, 2)])
-        .write(0xFFFE, &[0x8001])
+        .write(0x10A, &[0xFF])
+        .write(0xFF_FFFE, &[0x8001])
         .write(0, &[0x8002]);
-    let segmented = Settings {
-        linear: false,
-        ..wide()
-    };
-    let cells = board.first_row(&segmented, 0).unwrap();
+    let cells = board.first_row(&wide(), 0).unwrap();
     assert_eq!(cells[..3], [0x120, 0x120, 0x220]);
 }
 
@@ -877,31 +861,27 @@ fn who_pointed_there() {
     assert_eq!(list, missing(0, far, 0x42A));
 }
 
-/// Pointers begin where the step comes to: after a page's last word at its first one, linear after FFFFFE at 0.
+/// Pointers begin where the step comes to: after a page's last word in the next page, after FFFFFE at 0.
 #[test]
-fn pointers_begin_after_a_wrap() {
-    let segmented = Settings {
-        linear: false,
-        ..wide()
-    };
-    // A block at FFFA whose first segment begins at 0, and the list's pointer at 4; page 1 is not there.
+fn pointers_begin_after_a_step() {
+    // A block at FFFA whose first segment begins at 10000, and the list's pointer at 10004; page 2 is not there.
     let mut board = Board::new(0x0120);
-    board.memory.resize(0x8000, 0);
+    board.memory.resize(0x1_0000, 0);
     board.write(0x10, &[0, 0xFFFA]).write(0xFFFA, &[0, 0, 1]);
-    board.write(0, &[0x0100, 0, 0, 0, 0x0202]);
-    let refusal = board.first_row(&segmented, 0).unwrap_err();
-    assert_eq!(refusal, missing(0, 0x1_0000, 0));
-    board.write(0, &[0, 0, 0x0100, 0, 0x0202]);
-    let refusal = board.first_row(&segmented, 0).unwrap_err();
-    assert_eq!(refusal, missing(0, 0x1_0000, 4));
-    // A redefinition's pointer at 0.
+    board.write(0x1_0000, &[2, 0, 0, 0, 0x0202]);
+    let refusal = board.first_row(&wide(), 0).unwrap_err();
+    assert_eq!(refusal, missing(0, 0x2_0000, 0x1_0000));
+    board.write(0x1_0000, &[0, 0, 2, 0, 0x0202]);
+    let refusal = board.first_row(&wide(), 0).unwrap_err();
+    assert_eq!(refusal, missing(0, 0x2_0000, 0x1_0004));
+    // A redefinition's pointer at 10000.
     board
         .write(0xFFFA, &[0, 0, 0x8000])
-        .write(0, &[0x0100, 0, 0, 0, 0]);
-    let refusal = board.first_row(&segmented, 0).unwrap_err();
-    assert_eq!(refusal, missing(0, 0x1_0000, 0));
+        .write(0x1_0000, &[2, 0, 0, 0, 0]);
+    let refusal = board.first_row(&wide(), 0).unwrap_err();
+    assert_eq!(refusal, missing(0, 0x2_0000, 0x1_0000));
 
-    // Linear, in all that 24 bits address: a window block at FFFFFC has its second pointer at 0.
+    // In all that 24 bits address: a window block at FFFFFC has its second pointer at 0.
     let mut board = Board::new(0x0020);
     board.memory.resize(0x80_0000, 0);
     board
@@ -1079,6 +1059,66 @@ fn refused_scripts() {
     assert_eq!(refused(&[0, 9, 9]), "refused 2 row 0 at 000000\n");
 }
 
+/// 17 just after 2, in each call that draws or shifts; in a row with the state's row.
+#[test]
+fn segmented_settings() {
+    let board = Board::new(0x0020);
+    let state = start(&wide(), &board.memory, 0).unwrap().state;
+    let segmented = Settings {
+        linear: false,
+        ..wide()
+    };
+    let bad = Settings {
+        vsd: 99,
+        ..segmented
+    };
+    // A null TOP, a state out of range in row 9, a scroll out of range: 6 and 3 come after.
+    let no_top = Settings {
+        top: [0x00FF, 0],
+        ..segmented
+    };
+    let mut odd = state;
+    (odd.fields.row, odd.fields.scan_lines) = (9, 33);
+    let scroll = Scroll {
+        shift: 99,
+        phase: 0,
+        direction: 0,
+    };
+    for (settings, number) in [(&segmented, 17), (&no_top, 17), (&bad, 2)] {
+        let told = |row| Refusal {
+            number,
+            row,
+            address: 0,
+            from: 0,
+        };
+        assert_eq!(start(settings, &board.memory, 0).err(), Some(told(0)));
+        for state in [state, odd] {
+            let (mut after, mut cells) = (state, [7; CELLS]);
+            let told = told(state.fields.row);
+            let refused = row(settings, &board.memory, &mut after, &mut cells);
+            assert_eq!(refused, Err(told));
+            assert_eq!((after, cells), (state, [7; CELLS]));
+            let part = Part::Refuse(told);
+            let both = Effect {
+                clear: part,
+                set: part,
+            };
+            let effect = effect(settings, &board.memory, &state.fields);
+            assert_eq!(effect, (both, None));
+        }
+        let shifted = scroll::shift(settings, &board.memory, [0, 0], &scroll);
+        assert_eq!(shifted, Err(told(0)));
+    }
+    // The sheet, and a row's text for mail, have it not.
+    assert_eq!(sheet(&segmented), sheet(&wide()));
+    let text = |settings| {
+        let mut text = [0; 2000];
+        let length = mail::write(settings, &[0x41; CELLS], &mut text);
+        (length, text)
+    };
+    assert_eq!(text(&segmented), text(&wide()));
+}
+
 #[test]
 fn named_vectors() {
     let all = vectors::all();
@@ -1098,7 +1138,7 @@ fn named_vectors() {
         assert!(vector.script.len() < 2000, "{}", vector.name);
         seen.insert(last.split(' ').take(2).collect::<Vec<_>>().join(" "));
     }
-    for number in [2, 6, 7, 8, 9, 10, 11, 12, 13, 14] {
+    for number in [2, 6, 7, 8, 9, 10, 11, 12, 13, 14, 17] {
         assert!(seen.contains(&format!("refused {number}")));
     }
 }
@@ -1120,6 +1160,8 @@ struct Tally {
     /// Calls by refusal number, accepted rows at 0.
     calls: [u32; 26],
     rows_with_window: u32,
+    /// Rows with a block or list that goes on in another page, and at 0 after FFFFFE.
+    rows_over_a_page_end: u32,
     rows_with_wrap: u32,
     effects_with_two_words: u32,
     effects_refused_in_one_part: u32,
@@ -1203,7 +1245,11 @@ fn compare_case(case: &Case, lent: &mut Lent, tally: &mut Tally) {
                 assert_eq!(buffer, drawn.cells);
                 assert!(drawn.answer.words < 12_000);
                 tally.rows_with_window += u32::from(drawn.window);
-                tally.rows_with_wrap += u32::from(drawn.wraps > 0);
+                let goes_on = |end: fn(u32) -> bool| {
+                    u32::from(notes.wanted.iter().any(|word| word.after.is_some_and(end)))
+                };
+                tally.rows_over_a_page_end += goes_on(|last| last & 0xFFFE == 0xFFFE);
+                tally.rows_with_wrap += goes_on(|last| last == 0xFF_FFFE);
             }
         }
         match joined.apply(first.latch) {
@@ -1259,7 +1305,7 @@ fn random_small_memories() {
         Shape::words(words)
     });
     println!("small: {tally:?}");
-    for number in [0, 1, 2, 3, 4, 6, 7, 8, 9, 10, 11, 12, 13, 14, 25] {
+    for number in [0, 1, 2, 3, 4, 6, 7, 8, 9, 10, 11, 12, 13, 14, 17, 25] {
         assert!(tally.calls[number] > 300, "{number}: {tally:?}");
     }
     assert_eq!(tally.calls[5], 0);
@@ -1272,7 +1318,7 @@ fn random_small_memories() {
 fn random_pages() {
     let tally = compare_shape(2, 10_000, |_| Shape::PAGES);
     println!("pages: {tally:?}");
-    assert!(tally.rows_with_wrap > 300);
+    assert!(tally.rows_over_a_page_end > 300);
 }
 
 #[test]
@@ -1302,7 +1348,7 @@ fn random_scripts() {
         }
     }
     println!("scripts: {counts:?}");
-    for number in [2, 6, 7, 8, 9, 10, 11, 12, 13, 14] {
+    for number in [2, 6, 7, 8, 9, 10, 11, 12, 13, 14, 17] {
         assert!(counts[&format!("refused {number}")] > 15, "{counts:?}");
     }
     assert!(counts["refused script"] > 300);

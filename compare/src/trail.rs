@@ -1,7 +1,7 @@
 //! The addresses of the words that a call reads, in order. What was read is kept as runs until the call is accepted, since a
 //! refused one leaves its list as it was; then the runs are written out.
 
-use crate::rules::{invokes, step, Settings};
+use crate::rules::{invokes, step};
 use std::mem::MaybeUninit;
 
 /// Places of a list.
@@ -92,17 +92,17 @@ impl Trail {
 
     /// Puts the addresses into a list, whose other places stay.
     #[inline]
-    pub(crate) fn write(&self, settings: &Settings, memory: &[u16], list: &mut [u32; PLACES]) {
+    pub(crate) fn write(&self, flag: u16, memory: &[u16], list: &mut [u32; PLACES]) {
         let runs = &self.runs[..self.count];
         // SAFETY: the first `count` runs are written.
         let runs = unsafe { runs.assume_init_ref() };
         let mut at = 0;
         for run in runs {
             at = match run.list {
-                None => write_run(settings.linear, run, list, at),
+                None => write_run(run, list, at),
                 Some(taken) => {
                     let mut rest = Rest::of(run, &taken, at);
-                    rest.write(settings, memory, &taken, &mut list[..self.words as usize]);
+                    rest.write(flag, memory, &taken, &mut list[..self.words as usize]);
                     rest.at
                 }
             };
@@ -125,21 +125,16 @@ impl Track for Trail {
 
 /// Whether so many words from an address on lie together, without a wrap.
 #[inline]
-fn together(linear: bool, address: u32, words: u32) -> bool {
-    let wrap = if linear {
-        0x100_0000
-    } else {
-        (address | 0xFFFF) + 1
-    };
-    address + 2 * words <= wrap
+fn together(address: u32, words: u32) -> bool {
+    address + 2 * words <= 0x100_0000
 }
 
 /// Writes the addresses of words read one after the other from a place on. Gives the place after them.
 #[inline]
-fn write_run(linear: bool, run: &Run, list: &mut [u32; PLACES], at: usize) -> usize {
+fn write_run(run: &Run, list: &mut [u32; PLACES], at: usize) -> usize {
     let end = at + run.length as usize;
     let places = &mut list[at..end];
-    if together(linear, run.address, run.length) {
+    if together(run.address, run.length) {
         for (place, n) in places.iter_mut().zip(0..) {
             *place = run.address + 2 * n;
         }
@@ -147,7 +142,7 @@ fn write_run(linear: bool, run: &Run, list: &mut [u32; PLACES], at: usize) -> us
         let mut next = run.address;
         for place in places {
             *place = next;
-            next = step(linear, next);
+            next = step(next);
         }
     }
     end
@@ -176,14 +171,13 @@ impl Rest {
 
     /// Writes the addresses of code words and of the list's words that they take. The places are those of all words read.
     #[inline]
-    fn write(&mut self, settings: &Settings, memory: &[u16], taken: &Taken, places: &mut [u32]) {
-        let linear = settings.linear;
+    fn write(&mut self, flag: u16, memory: &[u16], taken: &Taken, places: &mut [u32]) {
         let words = self.codes.div_ceil(2);
-        if together(linear, self.code, words) && together(linear, self.next, taken.words) {
+        if together(self.code, words) && together(self.next, taken.words) {
             let first = self.code as usize / 2;
-            self.by_words(settings.flag, &memory[first..], places);
+            self.by_words(flag, &memory[first..], places);
         }
-        self.by_codes(settings, memory, places);
+        self.by_codes(flag, memory, places);
     }
 
     /// Whole words, while there are three places left: a word and what its two codes may take. What they do not take is
@@ -214,18 +208,18 @@ impl Rest {
     }
 
     /// Code by code, to the end; either list may wrap.
-    fn by_codes(&mut self, settings: &Settings, memory: &[u16], places: &mut [u32]) {
+    fn by_codes(&mut self, flag: u16, memory: &[u16], places: &mut [u32]) {
         let mut write = |at: &mut usize, address: &mut u32| {
             places[*at] = *address;
             *at += 1;
-            *address = step(settings.linear, *address);
+            *address = step(*address);
         };
         while self.codes > 0 {
             let both = memory[self.code as usize / 2].to_be_bytes();
             write(&mut self.at, &mut self.code);
             let examined = self.codes.min(2);
             for &code in &both[..examined as usize] {
-                if invokes(settings.flag, code) {
+                if invokes(flag, code) {
                     write(&mut self.at, &mut self.next);
                 }
             }

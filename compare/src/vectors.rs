@@ -405,7 +405,7 @@ fn settings(set: &mut Set) {
     );
     set.sketch(
         "top-null-under-ignored-bits-segmented",
-        "refused 6 row 0 at 000000",
+        "refused 17 row 0 at 000000",
         |s| {
             s.segmented = true;
             s.top = [0x80FF, 1];
@@ -478,7 +478,7 @@ fn missing_words(set: &mut Set) {
     );
     set.sketch(
         "missing-list-at-end-of-page-0-segmented",
-        "refused 7 row 0 at 00FFFE from 000106",
+        "refused 17 row 0 at 000000",
         |s| {
             s.segmented = true;
             s.row(0x100, 0, &[(0xFFFE, 0, 4, 4)]);
@@ -493,7 +493,7 @@ fn missing_words(set: &mut Set) {
     );
     set.sketch(
         "missing-page-127-segmented",
-        "refused 7 row 0 at 7F0010 from 000106",
+        "refused 17 row 0 at 000000",
         |s| {
             s.segmented = true;
             s.row(0x100, 0x7F_0010, &[(0x7F_0010, 0, 1, 1)]);
@@ -898,7 +898,7 @@ fn frames(set: &mut Set) {
     });
     set.sketch(
         "segmented-pointers-with-ignored-bits",
-        "end rows 2 words",
+        "refused 17 row 0 at 000000",
         |s| {
             s.segmented = true;
             s.top = [0x80FF, 0x11];
@@ -1083,7 +1083,7 @@ fn pointers(set: &mut Set) {
     );
     set.sketch(
         "from-segmented-link-with-ignored-bits",
-        "refused 7 row 1 at 010010 from 000100",
+        "refused 17 row 0 at 000000",
         |s| {
             s.segmented = true;
             s.row(0x100, 0x1_0010, &[(0x200, 0, 2, 2)])

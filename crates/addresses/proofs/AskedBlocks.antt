@@ -9,7 +9,7 @@ use lib.ListN.{length, getD}
 use lib.Dec.{ltb, leb, lit<}
 use Rattle.memory.specs.Word.{if_then_else_, bit, at}
 use Rattle.memory.specs.declared.Pointer.{Pointer}
-use Rattle.memory.specs.Reading.{Reading, done, _>>=_, readAs, onePointer, checkOf, check}
+use Rattle.memory.specs.Reading.{Reading, done, _>>=_, _>>_, readAs, onePointer, checkOf, check}
 use Rattle.memory.specs.Address.{nothing, pointer, null, nextWord, ahead, onward, further, words}
 use Rattle.memory.proofs.RunLaws.{ahead-add}
 use Rattle.settings.specs.declared.Settings.{Settings}
@@ -32,7 +32,7 @@ use Rattle.plan.specs.Plan.{Plan, plan}
 use Rattle.start.specs.Top.{registered, topBlock, enabled, ofWindow}
 use Rattle.start.specs.Start.{windowStart, startFrom}
 use Rattle.addresses.specs.Addresses.{wordIn, inTurn, pointed, headWord, blockWords, pointerIn, redefinitionOf, dueOf, rowsOf, overRows, planAddresses, startAddresses}
-use Rattle.addresses.proofs.Trace.{Trace, dones, asks, parts, joined, alone, trace-done, trace-check, trace-check-of, trace-as}
+use Rattle.addresses.proofs.Trace.{Trace, dones, asks, parts, joined, alone, trace-done, trace-check, trace-check-of, trace-as, no-refusal}
 
 -- words one after the other: their addresses, and each as memory has it
 pub record Read (m : List ℕ) (l : Bool) (k a : ℕ) (xs ws : List ℕ) : Type 0 where
@@ -246,13 +246,23 @@ module _ (m : List ℕ) (σ : Settings) where
   absent-none row Absent t e = ap (λ (o : Overlaid). o .overlay) (sym (trace-done t .1))
   absent-none row (Present x) t e = let q : _≡_ {A = ℕ} 0 1 = cc in absurd (omega arith)
 
+  -- the checks on settings ask for no word
+  settings-traced : {A : Type 0} (k : Unit {0} → Reading A) {xs : List ℕ} {a : A} → Trace m (checkSettings σ >>= k) xs a → Trace m (k tt) xs a
+  unfolding checkSettings _>>=_
+  settings-traced {A} k {xs} {a} t = by (good σ) (σ .linear) t
+    where
+      by : (g l : Bool) → Trace m ((check 2 g >> check 17 l) >>= k) xs a → Trace m (k tt) xs a
+      by true true t = t
+      by true false t = absurd (no-refusal t)
+      by false l t = absurd (no-refusal t)
+
   -- the blocks of a row
   pub plan-asked : (f : Fields) {xs : List ℕ} {p : Plan} → Trace m (plan σ f) xs p
       → xs ≡ planAddresses (σ .linear) m (dueOf (f .row) (f .window)) (f .next) (overRows (σ .linear) m (f .row) (f .window) (p .overlay))
-  unfolding plan checkSettings backgroundRow planAddresses
+  unfolding plan backgroundRow planAddresses
   plan-asked f t =
       let l = σ .linear in
-      let t₁ = trace-check 4 (ltb 0 (f .left)) _ (trace-check 3 (inRange f) _ (trace-check 2 (good σ) _ t .1) .1) .1 in
+      let t₁ = trace-check 4 (ltb 0 (f .left)) _ (trace-check 3 (inRange f) _ (settings-traced _ t) .1) .1 in
       let r = parts (dueWindow l (f .row) (f .window)) _ t₁ in
       let due = due-asked m l (f .row) (f .window) (r .one) in
       let s = parts (backgroundRow σ f) _ (r .two) in
@@ -270,12 +280,12 @@ module _ (m : List ℕ) (σ : Settings) where
 
   -- a start
   pub start-asked : (latch : ℕ) {xs : List ℕ} {s : State} → Trace m (startFrom latch σ) xs s → xs ≡ startAddresses σ
-  unfolding startFrom checkSettings topBlock mainBlockAt windowStart firstWindow startAddresses pointed
+  unfolding startFrom topBlock mainBlockAt windowStart firstWindow startAddresses pointed
   start-asked latch t =
       let l = σ .linear in
       let top = registered l (σ .top) in
       let tow = registered l (σ .tow) in
-      let r = parts (topBlock l (σ .top)) _ (trace-check 2 (good σ) _ t .1) in
+      let r = parts (topBlock l (σ .top)) _ (settings-traced _ t) in
       let six = trace-check 6 (not (null top)) _ (r .one) in
       let u = parts (mainBlockAt l top) _ (six .1) in
       let v = parts (readAs onePointer (words l 7 top)) _ (u .one) in

@@ -34,6 +34,9 @@ pub(crate) fn put_listed(
     ensures { λ r. ⌜ r ≡ leftWritten settings (now (mem .entry)) rest ⌝ }
     ensures { λ _. ⌜ now (list .exit) ≡ sets (now (list .entry)) (rest .at) (leftAddresses settings (now (mem .entry)) rest) ⌝ }
 {
+    if rest.left < 20 {
+        return put_rest(mem, settings, rest, list);
+    }
     let after = put_plain(mem, settings, rest, list);
     let last = put_most(mem, settings, after, list);
     put_rest(mem, settings, last, list)

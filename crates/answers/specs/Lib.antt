@@ -1,2 +1,3 @@
 pub mod AnswerNumbers
 pub mod AfterCall
+pub mod Changing

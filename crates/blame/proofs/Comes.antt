@@ -33,6 +33,10 @@ module _ (m : List ℕ) (Q : Fault → Type 0) where
   as-comes (r ∷ rs) (refuses x) = refuses x
   as-comes (r ∷ rs) (asks x g) = asks x (as-comes rs g)
 
+  pub check-comes : {P : Unit {0} → Type 0} (n : ℕ) (p : Pointer) (b : Bool) → (b ≡ false → Q (blaming n p)) → (b ≡ true → P tt) → Comes P (checkOf n p b)
+  check-comes n p true h f = dones (f refl)
+  check-comes n p false h f = refuses (h refl)
+
   -- a check and what comes after it
   pub check-then : {B : Type 0} {R : B → Type 0} (n : ℕ) (p : Pointer) (b : Bool) {k : Unit {0} → Reading B} → (b ≡ false → Q (blaming n p))
       → ((u : Unit {0}) → b ≡ true → Comes R (k u)) → Comes R (checkOf n p b >>= k)

@@ -21,6 +21,7 @@ use Rattle.settings.specs.declared.Settings.{Settings}
 use Rattle.settings.specs.Good.{good, checkSettings}
 use Rattle.settings.specs.Timing.{linesIn, linesForRows}
 use Rattle.settings.proofs.GoodLaws.{ordered}
+use Rattle.settings.proofs.CheckLaws.{Passing}
 use Rattle.blocks.specs.declared.MainBlock.{MainBlock}
 use Rattle.blocks.specs.Main.{mainBlock, mainBlockAt}
 use Rattle.windows.specs.Window.{firstWindow}
@@ -34,7 +35,7 @@ use Rattle.blame.specs.declared.Place.the-variants.{Register, Memory}
 use Rattle.blame.specs.declared.Verdict.{Verdict}
 use Rattle.blame.specs.declared.Verdict.the-variants.{Whole, Blamed, Refused}
 use Rattle.blame.specs.Blame.{leader, blamed, mendable, refusedRow, nextState, byRow, rowsWithin, rows, mainOf, byStart, verdict}
-use Rattle.blame.proofs.Comes.{as-comes, Comes, dones, bind, check-then, if-comes, comes-given, comes-refused}
+use Rattle.blame.proofs.Comes.{as-comes, Comes, dones, bind, check-comes, check-then, if-comes, comes-given, comes-refused}
 use Rattle.blame.proofs.Standing.{Stands, pointer-address, pointer-words, stands, words-come}
 use Rattle.blame.proofs.BlocksStand.{window-stands}
 use Rattle.blame.proofs.RowStands.{HeldAt, FieldsStand, LedTo, Ready, Mends, row-stands}
@@ -59,7 +60,7 @@ module _ (σ : Settings) (m : List ℕ) (b : Words m) (regs : Registers σ) wher
   refused-judged led number x h = rw (h .0) (blames (h .0) (h .1))
 
   -- one row, and a way to go on
-  row-judged : (go-on : Place → State → Verdict) (led : Place) (s : State) → good σ ≡ true → Ready σ m b led (s .fields)
+  row-judged : (go-on : Place → State → Verdict) (led : Place) (s : State) → Passing σ → Ready σ m b led (s .fields)
       → ((led : Place) (t : State) → Ready σ m b led (t .fields) → Judged (go-on led t)) → (s .fields .left ≡ 0 → ⊥)
       → Judged (byRow go-on (leader (s .fields .row) (s .fields .window) led) (s .fields .row) (run m (row σ s)))
   row-judged go-on led s g h k l = by (run m (row σ s)) refl
@@ -74,7 +75,7 @@ module _ (σ : Settings) (m : List ℕ) (b : Words m) (regs : Registers σ) wher
       by (given i r) e = k now (nextState r) (comes-given m (Mends σ m b now) 0 comes e)
       by (refused x) e = refused-judged now (s .fields .row) x (comes-refused m (Mends σ m b now) 0 comes e)
 
-  rows-judged : (n : ℕ) (led : Place) (s : State) → good σ ≡ true → Ready σ m b led (s .fields) → Judged (rowsWithin n σ m led s)
+  rows-judged : (n : ℕ) (led : Place) (s : State) → Passing σ → Ready σ m b led (s .fields) → Judged (rowsWithin n σ m led s)
   unfolding rowsWithin
   rows-judged zero led s g h = whole
   rows-judged (suc n) led s g h =
@@ -83,13 +84,19 @@ module _ (σ : Settings) (m : List ℕ) (b : Words m) (regs : Registers σ) wher
 
   -- ---- the start ----
   abbrev MainStands : MainBlock → Type 0
-  MainStands k = (good σ ≡ true) × Stands m b (σ .linear) (k .rows) × (1 ≤ k .lines) × (k .lines ≤ 32)
+  MainStands k = Passing σ × Stands m b (σ .linear) (k .rows) × (1 ≤ k .lines) × (k .lines ≤ 32)
+
+  settings-come : Comes m (λ _. Unit {0}) (λ _. Passing σ) (checkSettings σ)
+  unfolding checkSettings
+  settings-come =
+      check-then m (λ _. Unit {0}) 2 nobody (good σ) (λ _. tt) λ _ g.
+      check-comes m (λ _. Unit {0}) 17 nobody (σ .linear) (λ _. tt) λ l. record { proper = g; straight = l }
 
   main-stands : Comes m (λ _. Unit {0}) MainStands (mainOf σ)
-  unfolding mainOf checkSettings topBlock mainBlockAt mainBlock ahead
+  unfolding mainOf topBlock mainBlockAt mainBlock ahead
   main-stands =
       let p = registered (σ .linear) (σ .top) in
-      check-then m (λ _. Unit {0}) 2 nobody (good σ) (λ _. tt) λ _ g.
+      bind m (λ _. Unit {0}) settings-come λ _ g.
       check-then m (λ _. Unit {0}) 6 nobody (not (null p)) (λ _. tt) λ _ _.
       bind m (λ _. Unit {0}) {P = MainStands}
       (bind m (λ _. Unit {0}) (as-comes m (λ _. Unit {0}) onePointer (words-come m b (σ .linear) (λ _. Unit {0}) 7 p (λ a. tt))) λ ws e.
@@ -106,7 +113,7 @@ module _ (σ : Settings) (m : List ℕ) (b : Words m) (regs : Registers σ) wher
   window-starts latch k hk =
       let p = registered (σ .linear) (σ .tow) in
       let held : null p ≡ false → HeldAt σ m b Register = λ n e f. pointer-words (σ .linear) 0 (σ .tow .first) (σ .tow .second) n e f in
-      let o = ordered σ (hk .0) in
+      let o = ordered σ (hk .0 .proper) in
       bind m BlamesTow
       (window-stands m b (σ .linear) BlamesTow (HeldAt σ m b Register) 0 0 p (omega arith) (pointer-address (σ .linear) 0 (σ .tow .first) (σ .tow .second) (regs .tow))
       (λ n. (λ a. (refl, held n), (refl, held n), held n)))

@@ -13,7 +13,8 @@ use Rattle.memory.specs.Reading.{Reading, done, _>>=_, _>>_, check, nobody, bla
 use Rattle.memory.specs.Address.{null}
 use Rattle.memory.proofs.ReadBounds.{Words, both, if-cases}
 use Rattle.settings.specs.declared.Settings.{Settings}
-use Rattle.settings.specs.Good.{good, checkSettings}
+use Rattle.settings.specs.Good.{checkSettings}
+use Rattle.settings.proofs.CheckLaws.{Passing, passing-done}
 use Rattle.blocks.specs.declared.RowFormat.{RowFormat}
 use Rattle.blocks.specs.declared.Segment.{Segment}
 use Rattle.blocks.specs.RowBlock.{RowBlock, rowBlockAt, windowRowAt}
@@ -203,20 +204,20 @@ module _ (σ : Settings) (m : List ℕ) (b : Words m) where
           (λ n. (λ a. missing next-led a _ (s .held n), by-8 next-led (w .block .link) (s .held n), s .held n))
       by false = dones h
 
-  plan-stands : (led : Place) (f : Fields) → Ready led f → good σ ≡ true → 0 < f .left
+  plan-stands : (led : Place) (f : Fields) → Ready led f → Passing σ → 0 < f .left
       → Comes m (Mends (leader (f .row) (f .window) led)) (Planned (leader (f .row) (f .window) led)) (plan σ f)
-  unfolding plan checkSettings
+  unfolding plan _>>=_
   plan-stands led f h g l =
-      let now = leader (f .row) (f .window) led in
-      check-then m (Mends now) 2 nobody (good σ) (λ e. absurd (apart (sym g ∙ e))) λ _ _.
+      rw (passing-done σ g)
+      (let now = leader (f .row) (f .window) led in
       check-then m (Mends now) 3 nobody (inRange f) (λ e. absurd (apart (sym (in-range led f h) ∙ e))) λ _ _.
       check-then m (Mends now) 4 nobody (ltb 0 (f .left)) (λ e. absurd (apart (sym (lt-ltb 0 (f .left) l) ∙ e))) λ _ _.
-      bind m (Mends now) (due-stands led (f .row) (f .window) (h .window)) λ w hw. blocks-stand now f (h .fields) l w hw
+      bind m (Mends now) (due-stands led (f .row) (f .window) (h .window)) λ w hw. blocks-stand now f (h .fields) l w hw)
     where
       apart : true ≡ false → ⊥
       apart e = let z : _≡_ {A = ℕ} 0 1 = cc in omega arith
 
-  pub row-stands : (led : Place) (s : State) → Ready led (s .fields) → good σ ≡ true → 0 < s .fields .left
+  pub row-stands : (led : Place) (s : State) → Ready led (s .fields) → Passing σ → 0 < s .fields .left
       → Comes m (Mends (leader (s .fields .row) (s .fields .window) led)) (λ r. Ready (leader (s .fields .row) (s .fields .window) led) (r .next)) (row σ s)
   unfolding row
   row-stands led s h g l =

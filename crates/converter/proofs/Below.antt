@@ -1,4 +1,4 @@
--- A frame of good settings is the frame below its checks on the settings.
+-- A frame of good linear settings is the frame below its checks on the settings.
 use mathlib.Core.Path.{_≡_, refl, ap, fun-ext, _∙_}
 use mathlib.Core.Bool.{true}
 use mathlib.Core.List.{List}
@@ -17,14 +17,14 @@ use Rattle.frame.specs.Step.{begun, begin, step}
 use Rattle.frame.specs.Frame.{Frame, byStep, blank, within, rest, fromBegin, frame}
 use Rattle.converter.specs.Below.{rowBelow, stepBelow, withinBelow, fromBegun, frameBelow}
 
-module _ (σ : Settings) (g : good σ ≡ true) where
+module _ (σ : Settings) (g : good σ ≡ true) (l : σ .linear ≡ true) where
   start-below : (latch : ℕ) → startFrom latch σ ≡ mainStart latch σ
   unfolding startFrom checkSettings _>>=_
-  start-below latch = rw g
+  start-below latch = rw (g, l)
 
   row-below : (s : State) → row σ s ≡ rowBelow σ s
   unfolding row plan rowBelow checkSettings _>>=_
-  row-below s = rw g
+  row-below s = rw (g, l)
 
   step-below : (m : List ℕ) (p : Progress) → step σ m p blank ≡ stepBelow σ m p
   unfolding step stepBelow rowCall

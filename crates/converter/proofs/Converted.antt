@@ -119,6 +119,11 @@ turned-by latch σ m b fin x i = turned-word fin m i ∙ by-read (isRead i (fram
     by-read true h = ap (λ (k : ℕ). turned k (getD m i 0)) (frame-first latch σ m b fin i x h)
     by-read false h = ap (λ (t : Bool). if t then turnedFirst (getD m i 0) else getD m i 0) (frame-other latch σ m b fin i x h)
 
+-- the turn does not look at the mode
+turned-same : (σ : Settings) → turnedSettings σ ≡ turnedSettings (segmented σ)
+unfolding turnedSettings
+turned-same σ = refl
+
 -- of settings that are segmented by their form
 turns : (latch : ℕ) (σ : Settings) (m fin : List ℕ) → Sixteen σ m → good σ ≡ true → follow latch (segmented σ) m ≡ ended fin
     → (c : Conversion) → turnedSettings σ ≡ c .settings → c .pointers ≡ changes m (turnedMemory fin m) + registerChanges σ
@@ -127,7 +132,8 @@ turns latch σ m fin h g f c e n =
     let x = parts latch σ m (h .0) fin f in
     let τ = turnedSettings σ in
     record {
-      sameFrame = ap (λ (τ : Settings). frame latch τ (turnedMemory fin m)) (sym e) ∙ frame-below τ (turned-good σ ∙ g) latch (turnedMemory fin m)
+      settings = sym e ∙ turned-same σ;
+      sameFrame = ap (λ (τ : Settings). frame latch τ (turnedMemory fin m)) (sym e) ∙ frame-below τ (turned-good σ ∙ g) (turned-linear σ) latch (turnedMemory fin m)
           ∙ frames-same latch σ m (h .0) fin (h .1) (h .2) x;
       sameAddresses = ap (λ (τ : Settings). frameRead latch τ (turnedMemory fin m)) (sym e) ∙ frames-read latch σ m (h .0) fin (h .1) (h .2) x;
       turned = turned-by latch σ m (h .0) fin x;
@@ -146,9 +152,3 @@ all-turn latch σ m marks c h e =
     rw (a .memory)
     (subst (λ (ρ : Settings). Turns latch ρ m (turnedMemory (a .fin) m) c) s
     (turns latch σ m (a .fin) h (a .good-settings) (rw s (a .followed)) c (a .settings) (a .pointers)))
-
--- today the segmented frame is the frame of the segmented settings: its checks on the settings are met
-pub frame-kept : (latch : ℕ) (σ : Settings) (m : List ℕ) (marks : ℕ) (c : Conversion) → Sixteen σ m
-    → convertCall latch σ m marks .answer ≡ Accepted c → frame latch (c .settings) (convertCall latch σ m marks .memory) ≡ frame latch σ m
-frame-kept latch σ m marks c h e =
-    all-turn latch σ m marks c h e .sameFrame ∙ sym (frame-below σ (accepts σ m latch marks e .good-settings) latch m)

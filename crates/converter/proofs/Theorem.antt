@@ -31,7 +31,7 @@ use Rattle.converter.proofs.Walks.{Walks, walks, kept-on, kept-same, Wa
 
 -- ---- a row ----
 -- it reads fewer than 12,000 words
-below-reads : (σ : Settings) (s : State) → Reads (λ _. Unit {0}) 11690 (rowBelow σ s)
+pub below-reads : (σ : Settings) (s : State) → Reads (λ _. Unit {0}) 11690 (rowBelow σ s)
 unfolding rowBelow
 below-reads σ s =
     Bounds.bind {n = 167} {k = 11523} (lit≤ tt) (state-reads σ (s .fields)) λ p hp.

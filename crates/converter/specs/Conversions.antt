@@ -12,7 +12,7 @@ use Rattle.frame.specs.Frame.{frame}
 use Rattle.converter.specs.declared.Conversion.{Conversion}
 use Rattle.converter.specs.declared.ConvertAnswer.the-variants.{Accepted, Refused}
 use Rattle.converter.specs.Below.{frameBelow, frameRead, framePointers}
-use Rattle.converter.specs.Converter.{turnedFirst, changes, registerChanges, convertCall}
+use Rattle.converter.specs.Converter.{turnedFirst, turnedSettings, changes, registerChanges, convertCall}
 
 -- whether word i is among the words at these addresses
 unfoldable pub isRead : ℕ → List ℕ → Bool
@@ -21,6 +21,8 @@ isRead i (a ∷ addresses) = eqb (a / 2) i || isRead i addresses
 
 -- the memory `after` and the settings of a conversion, of what was before
 pub record Turns (latch : ℕ) (σ : Settings) (m after : List ℕ) (c : Conversion) : Type 0 where
+  -- the settings are linear, TOP and TOW turned, the rest as it was
+  pub settings : c .settings ≡ turnedSettings σ
   -- "The linear drawing after, from that latch, equals the segmented one before, cells and counts.": rows with their answers, the words of
   -- the start and the rows together, no refusal, the state at the end
   pub sameFrame : frame latch (c .settings) after ≡ frameBelow latch σ m

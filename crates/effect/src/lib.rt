@@ -11,7 +11,7 @@ use state::Fields;
 ghost use mathlib.Core.Path.{_≡_};
 ghost use Rattle.memory.specs.Reading.{given, run};
 ghost use Rattle.plan.specs.Plan.{plan};
-ghost use Rattle.plan.specs.Answers.{planOf};
+ghost use Rattle.plan.specs.Answers.{planOf, planAnswer};
 ghost use Rattle.state.specs.State.{stateOf};
 ghost use Rattle.row.specs.Row.{row};
 ghost use Rattle.effect.specs.declared.NextFields.{NextFields};
@@ -58,6 +58,7 @@ fn latch_told(
     back: &[u16; 75],
     window: &[u16; 75],
 ) -> LatchEffect
+    requires { ⌜ planAnswer (settings .linear) answer (now back) (now window) ≡ run (now mem) (plan settings fields) ⌝ }
     ensures { λ r. ⌜ Told settings (now (mem .entry)) fields (now (back .entry)) (now (window .entry)) answer r ⌝ }
 {
     match answer {

@@ -19,7 +19,7 @@ abbrev pub PartFits : Part → Type 0
 PartFits Keep = Unit
 PartFits (Set w) = w ≤ 65535
 PartFits (Refuse r) =
-    (ofEffect (r .number) ≡ true) × (r .number ≤ 13) × (r .row ≤ any) × (r .address ≤ any) × (r .from ≤ any)
+    (ofEffect (r .number) ≡ true) × (r .number ≤ 17) × (r .row ≤ any) × (r .address ≤ any) × (r .from ≤ any)
     × (eqb (r .number) 7 || eqb (r .from) 0 ≡ true)
 
 -- no effect has the refusal 0
@@ -40,13 +40,13 @@ part-again (Set w) h = (refl, refl)
 part-again (Refuse r) h = let n = ne-eqb (r .number) 0 (numbered (r .number) (h .0)) in (rw (n, h .0, h .5), rw n)
 
 part-within : (p : Part) → PartFits p → (ls xs : List ℕ)
-    → within (13 ∷ any ∷ any ∷ any ∷ 1 ∷ 65535 ∷ ls)
+    → within (17 ∷ any ∷ any ∷ any ∷ 1 ∷ 65535 ∷ ls)
     (partNumbers p .number ∷ partNumbers p .row ∷ partNumbers p .address ∷ partNumbers p .from ∷ partNumbers p .sets ∷ partNumbers p .word ∷ xs)
     ≡ within ls xs
 unfolding within
 part-within Keep h ls xs = refl
 part-within (Set w) h ls xs = rw (le-leb w 65535 h)
-part-within (Refuse r) h ls xs = rw (le-leb (r .number) 13 (h .1), le-leb (r .row) any (h .2), le-leb (r .address) any (h .3), le-leb (r .from) any (h .4))
+part-within (Refuse r) h ls xs = rw (le-leb (r .number) 17 (h .1), le-leb (r .row) any (h .2), le-leb (r .address) any (h .3), le-leb (r .from) any (h .4))
 
 pub effect-again : (e : Effect) → PartFits (e .clear) → PartFits (e .set) → effectIn (effectNumbers e) ≡ Fit e
 unfolding effectIn effectWritten effectAt effectNumbers within

@@ -16,7 +16,7 @@ use Rattle.effects.specs.declared.encode.PartNumbers.{PartNumbers}
 -- the part for ignore clear, then the one for ignore set. Each: the number of its refusal, or 0, its row, its address and where the pointer
 -- of a refusal 7 begins; whether it sets the latch, and the word
 abbrev pub effectLimits : List ℕ
-effectLimits = 13 ∷ any ∷ any ∷ any ∷ 1 ∷ 65535 ∷ 13 ∷ any ∷ any ∷ any ∷ 1 ∷ 65535 ∷ []
+effectLimits = 17 ∷ any ∷ any ∷ any ∷ 1 ∷ 65535 ∷ 17 ∷ any ∷ any ∷ any ∷ 1 ∷ 65535 ∷ []
 
 -- a part: a refusal where its number is not 0, else a set or a keep
 abbrev pub partAt : ℕ → ℕ → ℕ → ℕ → ℕ → ℕ → Part
@@ -33,7 +33,7 @@ effectAt xs = record {
 
 -- the refusals that the effect of a row can have: "it takes a row's checks but 1"; 02, of refusal 5: "withdrawn, its number unused"
 abbrev pub ofEffect : ℕ → Bool
-ofEffect n = (leb 2 n && leb n 4) || (leb 7 n && leb n 13)
+ofEffect n = (leb 2 n && leb n 4) || (leb 7 n && leb n 13) || eqb n 17
 
 -- numbers that the effect call writes for a part: what the part does not use is 0; "other refusals hold 0" where the pointer of a 7 begins
 abbrev pub partWritten : ℕ → ℕ → ℕ → ℕ → ℕ → ℕ → Bool

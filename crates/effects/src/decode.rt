@@ -18,13 +18,13 @@ pub fn effect_in(numbers: &[u32]) -> EffectIn
     ensures { λ r. ⌜ r ≡ effectIn (now (numbers .entry)) ⌝ }
 {
     let limits = [
-        13u32, // with ignore clear: refusal
+        17u32, // with ignore clear: refusal
         4294967295, // its row
         4294967295, // its address
         4294967295, // where its pointer begins
         1, // set
         65535, // word
-        13, // with ignore set: refusal
+        17, // with ignore set: refusal
         4294967295, // its row
         4294967295, // its address
         4294967295, // where its pointer begins
@@ -86,7 +86,7 @@ fn part_written(number: u32, row: u32, address: u32, from: u32, sets: u32, word:
 fn of_effect(n: u32) -> bool
     ensures { λ r. ⌜ r ≡ ofEffect n ⌝ }
 {
-    ((2 <= n) & (n <= 4)) | ((7 <= n) & (n <= 13))
+    ((2 <= n) & (n <= 4)) | ((7 <= n) & (n <= 13)) | (n == 17)
 }
 
 fn effect_at(n: &[u32]) -> Effect

@@ -10,9 +10,10 @@ use Rattle.memory.specs.declared.Fault.{Fault}
 use Rattle.memory.specs.declared.Pointer.{Pointer}
 use Rattle.memory.specs.Reading.{Reading, done, _>>=_, check, checkOf, nobody, Outcome, given, refused, runFrom, run}
 use Rattle.memory.specs.Address.{null}
-use Rattle.memory.proofs.Laws.{bind-given, bind-refused}
+use Rattle.memory.proofs.Laws.{bind-given, bind-refused, run-done}
 use Rattle.settings.specs.declared.Settings.{Settings}
-use Rattle.settings.specs.Good.{good, checkSettings}
+use Rattle.settings.specs.Good.{checkSettings}
+use Rattle.settings.proofs.CheckLaws.{Passing, passing-done, given-passing}
 use Rattle.blocks.specs.declared.Cursor.{Cursor}
 use Rattle.blocks.specs.declared.FillMode.{FillMode}
 use Rattle.blocks.specs.declared.RowFormat.{RowFormat}
@@ -60,13 +61,22 @@ pub passed : {A : Type 0} (n : ℕ) (m : List ℕ) (i : ℕ) (b : Bool) (k : Uni
     → runFrom n m (check i b >>= k) ≡ given j a → (b ≡ true) × (runFrom n m (k tt) ≡ given j a)
 passed n m i b k e = passed-of n m i nobody b k e
 
+pub settings-passed : {A : Type 0} (n : ℕ) (m : List ℕ) (σ : Settings) (k : Unit {0} → Reading A) {j : ℕ} {a : A}
+    → runFrom n m (checkSettings σ >>= k) ≡ given j a → Passing σ × (runFrom n m (k tt) ≡ given j a)
+settings-passed n m σ k {j} {a} e = by (came-by n m (checkSettings σ) k e)
+  where
+    by : Came n m (checkSettings σ) k (given j a) → Passing σ × (runFrom n m (k tt) ≡ given j a)
+    by (came {a = tt} c last) =
+        let h = given-passing σ n m c in
+        (h, sym (bind-given n m (checkSettings σ) k (ap (runFrom n m) (passing-done σ h) ∙ run-done n m tt)) ∙ e)
+
 module _ (σ : Settings) (m : List ℕ) where
   -- its checks have passed, and its format is its plan's
   data Planned (f : Fields) (r : Row) : Type 0 where
     planned : {i : ℕ} {p : Plan} → Passes σ f → run m (fromBlocks σ f) ≡ given i p → r .format ≡ p .format → Planned f r
 
   row-planned : (l : ℕ) (f : Fields) {n : ℕ} {r : Row} → run m (row σ (stateOf l f)) ≡ given n r → Planned f r
-  unfolding row plan checkSettings runFrom
+  unfolding row plan runFrom
   row-planned l f {n} {r} e = by-plan (came-by 0 m (plan σ f) (fromPlan σ (f .fill) l) e)
     where
       by-cells : {i : ℕ} (p : Plan) → Passes σ f → run m (fromBlocks σ f) ≡ given i p
@@ -75,10 +85,10 @@ module _ (σ : Settings) (m : List ℕ) where
 
       by-plan : Came 0 m (plan σ f) (fromPlan σ (f .fill) l) (given n r) → Planned f r
       by-plan (came {i} {a = p} c last) =
-          let good = passed 0 m 2 (good σ) (λ _. fromState σ f) c in
+          let good = settings-passed 0 m σ (λ _. fromState σ f) c in
           let range = passed 0 m 3 (inRange f) _ (good .1) in
           let lined = passed 0 m 4 (ltb 0 (f .left)) _ (range .1) in
-          by-cells p (record { good = good .0; range = range .0; lined = lined .0 }) (lined .1) (came-by i m _ _ last)
+          by-cells p (record { settings = good .0; range = range .0; lined = lined .0 }) (lined .1) (came-by i m _ _ last)
 
   pub row-passes : (l : ℕ) (f : Fields) {n : ℕ} {r : Row} → run m (row σ (stateOf l f)) ≡ given n r → Passes σ f
   row-passes l f e = by (row-planned l f e)

@@ -8,7 +8,7 @@ use Rattle.memory.specs.declared.Pointer.{Pointer}
 use Rattle.memory.specs.Reading.{Reading, done, _>>=_, check, checkOf}
 use Rattle.memory.specs.Address.{nothing, pointer, nextWord}
 use Rattle.settings.specs.declared.Settings.{Settings}
-use Rattle.settings.specs.Good.{good, checkSettings}
+use Rattle.settings.proofs.CheckLaws.{Passing, passing-done}
 use Rattle.blocks.specs.declared.Cursor.{Cursor}
 use Rattle.blocks.specs.declared.FillMode.{FillMode}
 use Rattle.blocks.specs.declared.RowFormat.{RowFormat}
@@ -84,9 +84,9 @@ module _ (σ : Settings) {p q : Pointer} where
 
 -- ---- the row ----
 
--- what checks 2 to 4 ask
+-- what checks 2, 17, 3 and 4 ask
 pub record Passes (σ : Settings) (f : Fields) : Type 0 where
-  pub good : good σ ≡ true
+  pub settings : Passing σ
   pub range : inRange f ≡ true
   pub lined : ltb 0 (f .left) ≡ true
 
@@ -94,8 +94,8 @@ abbrev fromState : Settings → ℕ → Fields → Reading Row
 fromState σ l f = fromBlocks σ f >>= fromPlan σ (f .fill) l
 
 pub row-checked : (σ : Settings) (l : ℕ) (f : Fields) → Passes σ f → row σ (stateOf l f) ≡ fromState σ l f
-unfolding row plan checkSettings _>>=_
-row-checked σ l f h = rw (h .good, h .range, h .lined)
+unfolding row plan _>>=_
+row-checked σ l f h = rw (passing-done σ (h .settings), h .range, h .lined)
 
 module _ (σ : Settings) (l : ℕ) where
   pub row-opens : {f g : Fields} → Like f g → Passes σ f → Passes σ g → eqb (f .next .address) 0 ≡ false

@@ -9,7 +9,7 @@ use Rattle.memory.specs.declared.Pointer.{Pointer}
 use Rattle.memory.specs.Reading.{Reading, done, _>>=_, check, given, run}
 use Rattle.memory.specs.Address.{pointer, null, nextWord}
 use Rattle.settings.specs.declared.Settings.{Settings}
-use Rattle.settings.specs.Good.{good, checkSettings}
+use Rattle.settings.proofs.CheckLaws.{Passing, passing-done}
 use Rattle.settings.specs.Timing.{linesForRows}
 use Rattle.blocks.specs.declared.Cursor.{Cursor}
 use Rattle.blocks.specs.declared.FillMode.{FillMode}
@@ -24,7 +24,7 @@ use Rattle.start.specs.Start.{firstFormat, firstFields, windowStart, mainStart,
 use Rattle.insertion.specs.Followed.{mainOf}
 use Rattle.insertion.proofs.Near.{Near, dones, bind-same, Opens, open-bind, as-opens, FromThird, fromThird, words-open}
 use Rattle.insertion.proofs.Rows.{plainFields}
-use Rattle.insertion.proofs.Accepted.{Came, came, came-by, passed}
+use Rattle.insertion.proofs.Accepted.{Came, came, came-by, passed, settings-passed}
 
 -- the same start with two first row blocks
 pub data StartAlike (latch : ℕ) (p q : Pointer) : State → State → Type 0 where
@@ -51,28 +51,28 @@ module _ (latch : ℕ) (σ : Settings) (alone : null (registered (σ .linear) (�
   unfolding windowStart firstWindow windowAt firstFields _>>=_
   state-alike b d (mains c fill m4 lines) = rw alone (dones (starts (linesForRows σ) c fill (firstFormat lines)))
 
-  -- checks 2 and 6
+  -- checks 2, 17 and 6
   pub record StartPasses : Type 0 where
-    pub good : good σ ≡ true
+    pub settings : Passing σ
     pub top : null (registered (σ .linear) (σ .top)) ≡ false
 
   pub start-opens : StartPasses
       → let a = mainOf σ in
       Opens a (nextWord (σ .linear) a) (λ w₁ w₂ v₁ v₂. StartAlike latch (pointer (σ .linear) a w₁ w₂) (pointer (σ .linear) a v₁ v₂))
       (startFrom latch σ) (startFrom latch σ)
-  unfolding startFrom checkSettings topBlock mainBlockAt _>>=_
+  unfolding startFrom topBlock mainBlockAt _>>=_
   start-opens h =
-      rw (h .good, h .top)
+      rw (passing-done σ (h .settings), h .top)
       (open-bind (open-bind (open-bind (as-opens (words-open (σ .linear) 5 (mainOf σ) _ _)) (block-alike (σ .linear) (mainOf σ))) λ w₁ w₂ v₁ v₂. scroll-alike)
       λ w₁ w₂ v₁ v₂. state-alike)
 
   pub start-passes : (m : List ℕ) {n : ℕ} {s : State} → run m (startFrom latch σ) ≡ given n s → StartPasses
-  unfolding startFrom checkSettings topBlock
+  unfolding startFrom topBlock
   start-passes m {n} {s} e = by (came-by 0 m (topBlock (σ .linear) (σ .top)) (windowStart latch σ) (settled .1))
     where
-      settled : (good σ ≡ true) × (run m (mainStart latch σ) ≡ given n s)
-      settled = passed 0 m 2 (good σ) (λ _. mainStart latch σ) e
+      settled : Passing σ × (run m (mainStart latch σ) ≡ given n s)
+      settled = settings-passed 0 m σ (λ _. mainStart latch σ) e
 
       by : Came 0 m (topBlock (σ .linear) (σ .top)) (windowStart latch σ) (given n s) → StartPasses
       by (came e last) =
-          record { good = settled .0; top = not-true _ (passed 0 m 6 (not (null (registered (σ .linear) (σ .top)))) _ e .0) }
+          record { settings = settled .0; top = not-true _ (passed 0 m 6 (not (null (registered (σ .linear) (σ .top)))) _ e .0) }

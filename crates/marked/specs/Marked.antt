@@ -92,9 +92,9 @@ rises n (Sheet.Given s) = partsOf s (fieldAt n) .rise ∷ []
 rises n (Sheet.Refused r) = []
 
 -- ---- settings, states and memory ----
-settings : Bool → Bool → ℕ → ℕ → Settings
-settings hidden cursor flag tow = record {
-  linear = true;
+memorySettings : Bool → Bool → Bool → ℕ → ℕ → Settings
+memorySettings linear hidden cursor flag tow = record {
+  linear = linear;
   hidden = hidden;
   interlace = Progressive;
   cursor = cursor;
@@ -112,9 +112,15 @@ settings hidden cursor flag tow = record {
   edition = Am8052;
 }
 
+settings : Bool → Bool → ℕ → ℕ → Settings
+settings hidden cursor flag tow = memorySettings true hidden cursor flag tow
+
 -- sheet S: switches 11h, flag 8080
 sheetS : Settings
 sheetS = settings false true 0x8080 0
+
+segmentedS : Settings
+segmentedS = memorySettings false false true 0x8080 0
 
 memoryS : List ℕ
 memoryS =
@@ -261,7 +267,7 @@ tests =
     invokes 0xE000 0x1F ∷ not (invokes 0xE000 0x20)
     -- P2
     ∷ invokes 0xFF7F 0x7F ∷ not (invokes 0xFF7F 0x7E)
-    -- P3, and the wrap at FFFFFE
+    -- P3, and the wrap at FFFFFE. 02: the segmented halves of P3 and P4 are converter cases (converter: Cases)
     ∷ eqb (nextWord true 0xFFFE) 0x10000 ∷ eqb (nextWord false 0xFFFE) 0 ∷ eqb (nextWord true 0xFFFFFE) 0
     -- P4
     ∷ eqb (pointer false 0 0x0123 0 .address) 0x10000 ∷ eqb (pointer true 0 0x0123 0 .address) 0x230000
@@ -277,6 +283,10 @@ tests =
     ∷ eqb (handedOn 0 (frame 0 sheetS memoryS)) 0x8002
     ∷ same (cellsFrom 0 4 (rowCall sheetS memoryS (stateOfStart (startCall 0x8002 sheetS memoryS)) buffer)) (0x100241 ∷ 0x500242 ∷ 0x100281 ∷ 0x220 ∷ [])
     ∷ eqb (handedOn 1 (frame 1 plain (two 33))) 1
+    -- 02: segmented, S is 17 in a row and in both parts of an effect, with the state's row
+    ∷ same (shown (rowCall segmentedS memoryS (at 5 Absent) buffer)) (17 ∷ 5 ∷ 0 ∷ 0 ∷ [])
+    ∷ same (partShown (effectCall segmentedS memoryS (at 5 Absent .fields) .effect .clear)) (17 ∷ 5 ∷ 0 ∷ 0 ∷ [])
+    ∷ same (partShown (effectCall segmentedS memoryS (at 5 Absent .fields) .effect .set)) (17 ∷ 5 ∷ 0 ∷ 0 ∷ [])
     -- P7, in both fields
     ∷ same (times 0 (sheetCall sheetS)) (2 ∷ 2 ∷ 32 ∷ 8 ∷ 44 ∷ []) ∷ same (times 1 (sheetCall sheetS)) (2 ∷ 2 ∷ 32 ∷ 8 ∷ 44 ∷ [])
     -- P8, in both fields
@@ -338,5 +348,5 @@ tests =
     ∷ []
 
 pub marked : every tests ≡ true
-unfolding same every shownAs shown cellsFrom partShown counts times rises settings sheetS memoryS stateAt at stateOfStart wordsOfStart stateAfter buffer firstRow clearPart setPart row0 row1 oddRow padded page one two plain listless timed video nine ten twelve numbered windowOn windowRow3 inHand nextShown tests readAs _>>=_ each runFrom pointer nextWord ahead words good checkSettings timing linesForRows clocks halved invokingCodes sheetOf sheetCall ones onesIn mainBlock mainBlockAt segmentOf segmentsAt segmentRoles restOfBlock blockAt rowBlockAt windowRowAt formatOf redefined W.windowOf W.windowAt W.firstWindow W.dueWindow S.windowInRange S.inRange invokes sourceNumber windowNumber cell width total allFit boundary edgesFit covered onSide segmentsOn windowRow overlaid nextFields backgroundBlock backgroundRow plan taking put character examine wordCodes codes filled fillByWord fillTo segment segmentsTo rowCells row withCursor rowCall topBlock firstFields windowStart startFrom startCall begin step within rest frame outcomeFor effectCall
+unfolding same every shownAs shown cellsFrom partShown counts times rises memorySettings settings sheetS segmentedS memoryS stateAt at stateOfStart wordsOfStart stateAfter buffer firstRow clearPart setPart row0 row1 oddRow padded page one two plain listless timed video nine ten twelve numbered windowOn windowRow3 inHand nextShown tests readAs _>>=_ each runFrom pointer nextWord ahead words good checkSettings timing linesForRows clocks halved invokingCodes sheetOf sheetCall ones onesIn mainBlock mainBlockAt segmentOf segmentsAt segmentRoles restOfBlock blockAt rowBlockAt windowRowAt formatOf redefined W.windowOf W.windowAt W.firstWindow W.dueWindow S.windowInRange S.inRange invokes sourceNumber windowNumber cell width total allFit boundary edgesFit covered onSide segmentsOn windowRow overlaid nextFields backgroundBlock backgroundRow plan taking put character examine wordCodes codes filled fillByWord fillTo segment segmentsTo rowCells row withCursor rowCall topBlock firstFields windowStart startFrom startCall begin step within rest frame outcomeFor effectCall
 marked = refl

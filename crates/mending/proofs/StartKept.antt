@@ -21,6 +21,7 @@ use Rattle.settings.specs.declared.Interlace.the-variants.{Progressive, RepeatF
 use Rattle.settings.specs.declared.Edition.{Edition}
 use Rattle.settings.specs.declared.Edition.the-variants.{Am8052, Z8052}
 use Rattle.settings.specs.Good.{inRange, inOrder, fitsMode, fitsEdition, good, checkSettings}
+use Rattle.settings.proofs.CheckLaws.{Passing, passing-done, given-passing}
 use Rattle.blocks.specs.Main.{mainBlock, mainBlockAt}
 use Rattle.start.specs.Top.{registered, topBlock}
 use Rattle.blame.specs.declared.Place.{Place}
@@ -161,13 +162,21 @@ unfolding settingsAfter good
 same-good Register σ = ap₂ (λ (a b : Bool). inRange σ && inOrder σ && a && b) (same-mode (σ .interlace) σ) (same-edition (σ .edition) σ)
 same-good (Memory a) σ = refl
 
-main-of : (σ : Settings) (m : List ℕ) → good σ ≡ true → run m (mainOf σ) ≡ run m (topBlock (σ .linear) (σ .top))
-unfolding mainOf checkSettings
-main-of σ m g = check-passed 0 m 2 (good σ) _ g
+same-linear : (p : Place) (σ : Settings) → settingsAfter p σ .linear ≡ σ .linear
+unfolding settingsAfter
+same-linear Register σ = refl
+same-linear (Memory a) σ = refl
 
-main-bad : (σ : Settings) (m : List ℕ) → good σ ≡ false → run m (mainOf σ) ≡ refused (fault 2)
-unfolding mainOf checkSettings
-main-bad σ m g = check-failed 0 m 2 (good σ) _ g
+same-passing : (p : Place) (σ : Settings) → Passing σ → Passing (settingsAfter p σ)
+same-passing p σ h = record { proper = same-good p σ ∙ h .proper; straight = same-linear p σ ∙ h .straight }
+
+main-of : (σ : Settings) (m : List ℕ) → Passing σ → run m (mainOf σ) ≡ run m (topBlock (σ .linear) (σ .top))
+unfolding mainOf _>>=_
+main-of σ m h = rw (passing-done σ h)
+
+main-bad : (σ : Settings) (m : List ℕ) {x : Fault} → run m (checkSettings σ) ≡ refused x → run m (mainOf σ) ≡ refused x
+unfolding mainOf
+main-bad σ m e = bind-refused 0 m (checkSettings σ) _ e
 
 same-top : (p : Place) (σ : Settings) (m : List ℕ) → topBlock (settingsAfter p σ .linear) (settingsAfter p σ .top) ≡ topBlock (σ .linear) (σ .top)
 unfolding settingsAfter
@@ -175,10 +184,13 @@ same-top Register σ m = refl
 same-top (Memory a) σ m = refl
 
 pub main-kept : (p : Place) (σ : Settings) (m : List ℕ) → Given (run m (mainOf σ)) → Given (run (memoryAfter p (σ .linear) m) (mainOf (settingsAfter p σ)))
-main-kept p σ m h = by (good σ) refl
+main-kept p σ m h = by (run m (checkSettings σ)) refl
   where
-    by : (t : Bool) → good σ ≡ t → Given (run (memoryAfter p (σ .linear) m) (mainOf (settingsAfter p σ)))
-    by true g =
-        rw (main-of (settingsAfter p σ) (memoryAfter p (σ .linear) m) (same-good p σ ∙ g), same-top p σ m)
+    kept : Passing σ → Given (run (memoryAfter p (σ .linear) m) (mainOf (settingsAfter p σ)))
+    kept g =
+        rw (main-of (settingsAfter p σ) (memoryAfter p (σ .linear) m) (same-passing p σ g), same-top p σ m)
         (top-kept (σ .linear) (σ .top) m (memoryAfter p (σ .linear) m) (change-less p (σ .linear) m) (rw (main-of σ m g) at h))
-    by false g = absurd (given-not h (main-bad σ m g))
+
+    by : (o : Outcome (Unit {0})) → run m (checkSettings σ) ≡ o → Given (run (memoryAfter p (σ .linear) m) (mainOf (settingsAfter p σ)))
+    by (given i tt) e = kept (given-passing σ 0 m e)
+    by (refused x) e = absurd (given-not h (main-bad σ m e))

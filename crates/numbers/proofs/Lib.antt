@@ -1,3 +1,4 @@
 pub mod PlaceLaws
+pub mod LengthLaws
 pub mod Again
 pub mod Judged

@@ -1,2 +1,3 @@
 pub mod PlanBounds
 mod PlanLaws
+pub mod PlanPassing

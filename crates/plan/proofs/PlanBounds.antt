@@ -7,7 +7,7 @@ use lib.Dec.{ltb}
 use borrow.Author.Tests.{ltb-true}
 use Rattle.memory.proofs.ReadBounds.{Reads, dones, bind, check-reads}
 use Rattle.settings.specs.declared.Settings.{Settings}
-use Rattle.settings.specs.Good.{good, checkSettings}
+use Rattle.settings.proofs.CheckLaws.{settings-read}
 use Rattle.blocks.proofs.BlockBounds.{Few}
 use Rattle.windows.proofs.WindowBounds.{Placed, After, after-trans, due-reads}
 use Rattle.state.specs.declared.Fields.{Fields}
@@ -60,5 +60,5 @@ state-reads σ f =
     })
 
 pub plan-reads : (σ : Settings) (f : Fields) → Reads (Sound (σ .hidden) f) 167 (plan σ f)
-unfolding plan checkSettings
-plan-reads σ f = bind {n = 0} {k = 167} (omega arith) (check-reads 2 (good σ)) λ _ _. state-reads σ f
+unfolding plan
+plan-reads σ f = bind {n = 0} {k = 167} (omega arith) (settings-read σ) λ _ _. state-reads σ f

@@ -66,7 +66,7 @@ module _ (m : List ℕ) (σ : Settings) (f : Fields) where
               reads-given 0 m b (overlaid-reads σ (f .row) w (due .1 .0)) u .0,
             )
 
--- check 2, and checks 3 and 4
+-- checks 2 and 17, and checks 3 and 4
 module _ (m : List ℕ) (σ : Settings) (f : Fields) where
   pub settings-refused : {x : Fault} → run m (checkSettings σ) ≡ refused x → run m (plan σ f) ≡ refused x
   unfolding plan

@@ -1,4 +1,4 @@
--- What a row is drawn from, before any cell: checks 2 to 4, a due window, the row block and its redefinition, 9, 10, the window
+-- What a row is drawn from, before any cell: checks 2, 17, 3 and 4, a due window, the row block and its redefinition, 9, 10, the window
 -- row block, 9, 11, and 12. It asks for no latch.
 use Prim.Native.Nat.{ℕ, _+_, _-_, min}
 use mathlib.Core.List.{List}
@@ -66,7 +66,7 @@ fromState σ f = do
   check 4 (ltb 0 (f .left))
   fromBlocks σ f
 
--- check 2 comes before them; check 1, on the row buffer, is the row call's
+-- checks 2 and 17 come before them; check 1, on the row buffer, is the row call's
 unfoldable pub plan : Settings → Fields → Reading Plan
 plan σ f = do
   checkSettings σ

@@ -50,8 +50,21 @@ pub fn plan_row(
 {
     match settings::check_settings(settings) {
         SettingsCheck::Refused(fault) => PlanAnswer::Refused(fault),
-        SettingsCheck::Passed => plan_state(mem, settings, fields, back, over),
+        SettingsCheck::Passed => {
+            let linear = written_linear(settings);
+            plan_state(mem, linear, fields, back, over)
+        }
     }
+}
+
+// The same settings, with `linear` written out: what is called with them is compiled for linear memory alone.
+fn written_linear(settings: Settings) -> Settings
+    requires { ⌜ settings .linear ≡ true ⌝ }
+    ensures { λ r. ⌜ r ≡ settings ⌝ }
+{
+    let mut linear = settings;
+    linear.linear = true;
+    linear
 }
 
 // The plan of a row whose settings are checked: checks 3 and 4 on the state.

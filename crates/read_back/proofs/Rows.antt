@@ -80,7 +80,7 @@ module _ (m : List ℕ) (b : Words m) where
 
   settings-keep : (σ : Settings) → Keeps m b (λ _. good σ ≡ true) (checkSettings σ)
   unfolding checkSettings
-  settings-keep σ = checked 2 (good σ) (λ g. g)
+  settings-keep σ = check-then m SmallFault 2 nobody (good σ) (λ _. (lit≤ tt, lit≤ tt)) λ _ g. checked 17 (σ .linear) (λ _. g)
 
   -- ---- a start ----
   pub start-keeps : (latch : ℕ) (σ : Settings) → latch < 65536 → TopsFit σ → Keeps m b StateFits (startFrom latch σ)

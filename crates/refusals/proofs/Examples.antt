@@ -1,7 +1,7 @@
 -- Each number of each call's list is answered: a computed example for one after the other.
 use Prim.Native.Nat.{ℕ}
 use mathlib.Core.Path.{_≡_, refl}
-use mathlib.Core.Bool.{true, false}
+use mathlib.Core.Bool.{Bool, true, false}
 use mathlib.Core.List.{List, [], _∷_, _++_}
 use lib.IntN.{pos}
 use lib.ListN.{replicate}
@@ -33,10 +33,10 @@ use Rattle.start.specs.Start.{firstFields, windowStart, startFrom, startCall}
 use Rattle.effect.specs.Effect.{outcomeFor, effectCall}
 use Rattle.refusals.specs.Refusals.{sheetNumbers, startNumbers, shiftNumbers, effectNumbers, rowNumbers, ofSheet, ofStart, ofShift, ofRow, ofPart, has}
 
--- settings with these second words of TOP and TOW, and this VAL; 0 is not above VSD
-pub settings : ℕ → ℕ → ℕ → Settings
-settings top tow val = record {
-  linear = true;
+-- settings, linear or segmented, with these second words of TOP and TOW, and this VAL; 0 is not above VSD
+pub mode : Bool → ℕ → ℕ → ℕ → Settings
+mode linear top tow val = record {
+  linear = linear;
   hidden = false;
   interlace = Progressive;
   cursor = false;
@@ -54,11 +54,18 @@ settings top tow val = record {
   edition = Am8052;
 }
 
+pub settings : ℕ → ℕ → ℕ → Settings
+settings top tow val = mode true top tow val
+
+pub segmented : Settings
+segmented = mode false 2 0 16
+
 pub plain : Settings
 plain = settings 2 0 16
 
+-- VAL 0, and segmented too: 17 comes "just after 2"
 pub bad : Settings
-bad = settings 2 0 0
+bad = mode false 2 0 0
 
 -- row 1 of a state with these lines left, its block at 2, the fill flag set
 pub fields : ℕ → WindowInHand → Fields
@@ -92,8 +99,8 @@ call σ m f = record { settings = σ; memory = m; fields = f }
 
 pub calls : List Call
 calls =
-    -- 2: VAL 0. 3: row 1 and 4095 lines. 4: no line
-    call bad [] (fields 1 Absent) ∷ call plain [] (fields 4095 Absent) ∷ call plain [] (fields 0 Absent)
+    -- 2: VAL 0. 17: segmented. 3: row 1 and 4095 lines. 4: no line
+    call bad [] (fields 1 Absent) ∷ call segmented [] (fields 1 Absent) ∷ call plain [] (fields 4095 Absent) ∷ call plain [] (fields 0 Absent)
     -- 7: no word. 8: the window of row 0 has passed, and the next one's first row, 1, is past its last, 0
     ∷ call plain [] (fields 1 Absent) ∷ call plain (0 ∷ 0 ∷ 0 ∷ 0 ∷ 0 ∷ 0x100 ∷ 0 ∷ []) (fields 1 (window 0 0 0 2))
     -- 9: V 1, L 0. 10: width 133
@@ -118,37 +125,37 @@ setOf (c ∷ cs) = ofPart (effectCall (c .settings) (c .memory) (c .fields) .eff
 
 -- ---- the statements ----
 pub sheets : ofSheet (sheetCall bad) ≡ sheetNumbers
-unfolding settings bad sheetCall good
+unfolding mode settings segmented bad sheetCall good
 sheets = refl
 
 -- a main block at 2, whose M4 has enable and window
 pub scrolling : List ℕ
 scrolling = 0 ∷ 0 ∷ 0 ∷ 0 ∷ 0 ∷ 0x5000 ∷ 0 ∷ 0 ∷ []
 
--- VAL 0; TOP null; no word; M4 with enable and window; a window whose first row, 1, is past its last, 0
-pub starts : ofStart (startCall 0 bad []) ++ ofStart (startCall 0 (settings 0 0 16) []) ++ ofStart (startCall 0 plain [])
+-- VAL 0; segmented; TOP null; no word; M4 with enable and window; a window whose first row, 1, is past its last, 0
+pub starts : ofStart (startCall 0 bad []) ++ ofStart (startCall 0 segmented []) ++ ofStart (startCall 0 (settings 0 0 16) []) ++ ofStart (startCall 0 plain [])
     ++ ofStart (startCall 0 plain scrolling) ++ ofStart (startCall 0 (settings 2 2 16) (0 ∷ 0 ∷ 0 ∷ 0 ∷ 0 ∷ 0x100 ∷ 0 ∷ 0 ∷ [])) ≡ startNumbers
-unfolding settings bad plain good checkSettings pointer nextWord ahead words readAs _>>=_ runFrom mainBlock mainBlockAt W.windowOf W.windowAt W.firstWindow topBlock firstFields windowStart startFrom startCall scrolling
+unfolding mode settings segmented bad plain good checkSettings pointer nextWord ahead words readAs _>>=_ runFrom mainBlock mainBlockAt W.windowOf W.windowAt W.firstWindow topBlock firstFields windowStart startFrom startCall scrolling
 starts = refl
 
 -- a scroll of this phase
 pub scroll : ℕ → Scroll
 scroll phase = record { shift = pos 0; phase = phase; direction = 0 }
 
--- VAL 0; phase 8; TOP null; no word; M4 with enable and window
-pub shifts : ofShift (Shift.shiftCall bad [] (plain .top) (scroll 0)) ++ ofShift (Shift.shiftCall plain [] (plain .top) (scroll 8))
+-- VAL 0; segmented; phase 8; TOP null; no word; M4 with enable and window
+pub shifts : ofShift (Shift.shiftCall bad [] (plain .top) (scroll 0)) ++ ofShift (Shift.shiftCall segmented [] (plain .top) (scroll 0)) ++ ofShift (Shift.shiftCall plain [] (plain .top) (scroll 8))
     ++ ofShift (Shift.shiftCall (settings 0 0 16) [] (plain .top) (scroll 0)) ++ ofShift (Shift.shiftCall plain [] (plain .top) (scroll 0))
     ++ ofShift (Shift.shiftCall plain scrolling (plain .top) (scroll 0)) ≡ shiftNumbers
-unfolding settings bad plain scroll good checkSettings pointer nextWord words readAs _>>=_ runFrom mainBlock mainBlockAt topBlock scrolling Shift.inRange Shift.shiftBy Shift.shift Shift.shiftCall
+unfolding mode settings segmented bad plain scroll good checkSettings pointer nextWord words readAs _>>=_ runFrom mainBlock mainBlockAt topBlock scrolling Shift.inRange Shift.shiftBy Shift.shift Shift.shiftCall
 shifts = refl
 
 -- 131 cells, then the calls above
 pub rows : ofRow (rowCall plain [] (S.stateOf 0 (fields 1 Absent)) (replicate 131 0) .answer) ++ rowsOf calls ≡ rowNumbers
-unfolding settings bad plain fields window block call calls rowsOf good checkSettings pointer nextWord ahead words readAs _>>=_ each runFrom segmentOf segmentsAt segmentRoles restOfBlock blockAt rowBlockAt windowRowAt redefined W.windowOf W.windowAt W.dueWindow S.windowInRange S.inRange width total allFit boundary edgesFit windowRow overlaid nextFields backgroundBlock backgroundRow plan codes fillByWord fillTo segment segmentsTo rowCells row rowCall
+unfolding mode settings segmented bad plain fields window block call calls rowsOf good checkSettings pointer nextWord ahead words readAs _>>=_ each runFrom segmentOf segmentsAt segmentRoles restOfBlock blockAt rowBlockAt windowRowAt redefined W.windowOf W.windowAt W.dueWindow S.windowInRange S.inRange width total allFit boundary edgesFit windowRow overlaid nextFields backgroundBlock backgroundRow plan codes fillByWord fillTo segment segmentsTo rowCells row rowCall
 rows = refl
 
 pub effects : (clearOf calls ≡ effectNumbers) × (setOf calls ≡ effectNumbers)
-unfolding settings bad plain fields window block call calls clearOf setOf good checkSettings pointer nextWord ahead words readAs _>>=_ each runFrom segmentOf segmentsAt segmentRoles restOfBlock blockAt rowBlockAt windowRowAt redefined W.windowOf W.windowAt W.dueWindow S.windowInRange S.inRange width total allFit boundary edgesFit windowRow overlaid nextFields backgroundBlock backgroundRow plan codes fillByWord fillTo segment segmentsTo rowCells row outcomeFor effectCall
+unfolding mode settings segmented bad plain fields window block call calls clearOf setOf good checkSettings pointer nextWord ahead words readAs _>>=_ each runFrom segmentOf segmentsAt segmentRoles restOfBlock blockAt rowBlockAt windowRowAt redefined W.windowOf W.windowAt W.dueWindow S.windowInRange S.inRange width total allFit boundary edgesFit windowRow overlaid nextFields backgroundBlock backgroundRow plan codes fillByWord fillTo segment segmentsTo rowCells row outcomeFor effectCall
 effects = (refl, refl)
 
 -- "5 withdrawn, its number unused"

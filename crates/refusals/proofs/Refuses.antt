@@ -26,6 +26,10 @@ bind (dones {a}) f = f a
 bind (refuses h) f = refuses h
 bind (asks g) f = asks (λ w. bind (g w) f)
 
+pub check-refuses : {ns : List ℕ} (n : ℕ) (b : Bool) → has n ns ≡ true → Refuses ns (check n b)
+check-refuses n true h = dones
+check-refuses n false h = refuses h
+
 -- a check and what comes after it, which knows that the check was met
 pub check-of-then : {B : Type 0} {ns : List ℕ} (n : ℕ) (p : Pointer) (b : Bool) {k : Unit {0} → Reading B} → has n ns ≡ true
     → ((u : Unit {0}) → b ≡ true → Refuses ns (k u)) → Refuses ns (checkOf n p b >>= k)

@@ -47,7 +47,12 @@ use Rattle.scroll.specs.Scroll as Shift
 use Rattle.joining.specs.declared.Part.{Part}
 use Rattle.effect.specs.Effect.{partOf, latchWith, outcomeFor, effectCall}
 use Rattle.refusals.specs.Refusals.{sheetNumbers, startNumbers, shiftNumbers, effectNumbers, rowNumbers, ofSheet, ofStart, ofShift, ofRow, ofPart, ofEffect, has, within}
-use Rattle.refusals.proofs.Refuses.{Refuses, dones, refuses, asks, bind, check-then, check-of-then, if-refuses, each-refuses, words-refuse, as-refuses, Told, given-told, refused-told, run-told}
+use Rattle.refusals.proofs.Refuses.{Refuses, dones, refuses, asks, bind, check-refuses, check-then, check-of-then, if-refuses, each-refuses, words-refuse, as-refuses, Told, given-told, refused-told, run-told}
+
+-- the checks on settings
+settings-refuse : {ns : List ℕ} (σ : Settings) → has 2 ns ≡ true → has 17 ns ≡ true → Refuses ns (checkSettings σ)
+unfolding checkSettings
+settings-refuse σ h k = check-then 2 (good σ) h λ _ _. check-refuses 17 (σ .linear) k
 
 -- blocks
 module _ {ns : List ℕ} where
@@ -87,9 +92,9 @@ module _ {ns : List ℕ} where
 
 -- a start
 start-refuses : (latch : ℕ) (σ : Settings) → Refuses startNumbers (startFrom latch σ)
-unfolding startFrom checkSettings windowStart firstWindow
+unfolding startFrom windowStart firstWindow
 start-refuses latch σ =
-    check-then 2 (good σ) refl λ _ _.
+    bind (settings-refuse σ refl refl) λ _.
     bind (top-refuses refl refl (σ .linear) (σ .top)) λ m.
     bind (window-refuses refl (σ .linear) 0 0 _) λ w. dones
 
@@ -99,9 +104,9 @@ unfolding Shift.firstLines backgroundBlock rowBlockAt
 lines-refuse linear m = bind (bind (block-refuses linear true _) λ b. bind (redefined-refuses linear _ _) λ t. dones) λ g. dones
 
 shift-refuses : (σ : Settings) (soft : PointerWords) (last : Scroll) → Refuses shiftNumbers (Shift.shift σ soft last)
-unfolding Shift.shift checkSettings Shift.shiftBy Shift.edgeLines
+unfolding Shift.shift Shift.shiftBy Shift.edgeLines
 shift-refuses σ soft last =
-    check-then 2 (good σ) refl λ _ _.
+    bind (settings-refuse σ refl refl) λ _.
     check-then 3 (Shift.inRange last) refl λ _ _.
     bind (top-refuses refl refl (σ .linear) (σ .top)) λ hard.
     if-refuses (enabled hard)
@@ -128,9 +133,9 @@ background-refuses σ f =
     check-of-then 10 (f .next) (leb (total (σ .hidden) (g .block .segments)) 132) refl λ _ _. dones
 
 plan-refuses : (σ : Settings) (f : Fields) → Refuses effectNumbers (plan σ f)
-unfolding plan checkSettings
+unfolding plan
 plan-refuses σ f =
-    check-then 2 (good σ) refl λ _ _.
+    bind (settings-refuse σ refl refl) λ _.
     check-then 3 (inRange f) refl λ _ _.
     check-then 4 (ltb 0 (f .left)) refl λ _ _.
     bind (due-refuses refl (σ .linear) (f .row) (f .window)) λ w.

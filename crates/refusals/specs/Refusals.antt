@@ -28,18 +28,18 @@ abbrev pub sheetNumbers : List ℕ
 sheetNumbers = 2 ∷ []
 
 -- "Start: 2, 6, 7 for the main block, then 7 and 8 for the first window." 02: "14, enable and window set, in starts too, after a main
--- block's"
+-- block's", and "17, segmented in a start, row, effect or shift call, just after 2"
 abbrev pub startNumbers : List ℕ
-startNumbers = 2 ∷ 6 ∷ 7 ∷ 14 ∷ 8 ∷ []
+startNumbers = 2 ∷ 17 ∷ 6 ∷ 7 ∷ 14 ∷ 8 ∷ []
 
 -- 02, of a shift call: "3 (after 2)", and "a start's and a row's as met": the main blocks' 6, 7 and 14, and 7 for the row block
 abbrev pub shiftNumbers : List ℕ
-shiftNumbers = 2 ∷ 3 ∷ 6 ∷ 7 ∷ 14 ∷ []
+shiftNumbers = 2 ∷ 17 ∷ 3 ∷ 6 ∷ 7 ∷ 14 ∷ []
 
 -- An effect "takes a row's checks but 1": 2 to 4; "a due window (7, 8); the whole row block, then its redefinition (7), 9, 10; window
 -- row block (7), 9, 11; 12; then cells as met (7, 13)".
 abbrev pub effectNumbers : List ℕ
-effectNumbers = 2 ∷ 3 ∷ 4 ∷ 7 ∷ 8 ∷ 9 ∷ 10 ∷ 11 ∷ 12 ∷ 13 ∷ []
+effectNumbers = 2 ∷ 17 ∷ 3 ∷ 4 ∷ 7 ∷ 8 ∷ 9 ∷ 10 ∷ 11 ∷ 12 ∷ 13 ∷ []
 
 abbrev pub rowNumbers : List ℕ
 rowNumbers = 1 ∷ effectNumbers

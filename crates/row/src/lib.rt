@@ -9,7 +9,7 @@ use settings::Settings;
 use state::Fields;
 use state::State;
 ghost use mathlib.Core.Path.{_≡_};
-ghost use mathlib.Core.Bool.{_&&_};
+ghost use mathlib.Core.Bool.{_&&_, true};
 ghost use lib.ListN.{length};
 ghost use lib.Dec.{eqb};
 ghost use Rattle.memory.specs.Reading.{given, run};
@@ -50,12 +50,13 @@ pub fn row(settings: Settings, mem: &[u16], state: State, buffer: &mut [u32]) ->
     }
 }
 
-// The settings that the cells of a row are drawn by.
+// The settings that the cells of a row are drawn by, `linear` written out: a plan was accepted.
 pub fn code_settings(settings: Settings) -> CodeSettings
+    requires { ⌜ settings .linear ≡ true ⌝ }
     ensures { λ r. ⌜ r ≡ codeSettings settings ⌝ }
 {
     CodeSettings {
-        linear: settings.linear,
+        linear: true,
         hidden: settings.hidden,
         flag: settings.flag,
     }

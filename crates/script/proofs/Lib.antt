@@ -1,4 +1,5 @@
 pub mod KindLaws
 pub mod FeedLaws
 pub mod ByRecords
+pub mod Invariants
 pub mod FirstEdition

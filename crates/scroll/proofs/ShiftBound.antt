@@ -14,7 +14,7 @@ use Rattle.memory.specs.Reading.{Outcome, given, refused, run}
 use Rattle.memory.proofs.ReadBounds.{Words, Reads, dones, weaken, bind, check-reads, if-cases, if-reads, words-read, Within, given-within, refused-within, run-reads}
 use Rattle.settings.specs.declared.PointerWords.{PointerWords}
 use Rattle.settings.specs.declared.Settings.{Settings}
-use Rattle.settings.specs.Good.{good, checkSettings}
+use Rattle.settings.proofs.CheckLaws.{settings-read}
 use Rattle.blocks.specs.declared.MainBlock.{MainBlock}
 use Rattle.blocks.specs.declared.RowFormat.{RowFormat}
 use Rattle.blocks.specs.RowBlock.{redefined, formatOf}
@@ -81,9 +81,9 @@ reached-again up n hard soft g h k =
     (λ t. again up g hard (record { lines = omega (arith, leb-false n (g .lines) t); phase = k }))
 
 pub shift-reads : (σ : Settings) (soft : PointerWords) (last : Scroll) → Reads (λ s. inRange (s .scroll) ≡ true) 97 (shift σ soft last)
-unfolding shift checkSettings shiftBy
+unfolding shift shiftBy
 shift-reads σ soft last =
-    bind {n = 0} {k = 97} (lit≤ tt) (check-reads 2 (good σ)) λ _ _.
+    bind {n = 0} {k = 97} (lit≤ tt) (settings-read σ) λ _ _.
     bind {n = 0} {k = 97} (lit≤ tt) (check-reads 3 (inRange last)) λ _ h.
     bind {n = 7} {k = 90} (lit≤ tt) (top-reads (σ .linear) (σ .top)) λ hard k.
     if-reads (enabled hard)

@@ -4,7 +4,7 @@ use mathlib.Core.Bool.{Bool, true, false, _&&_}
 use lib.Dec.{ltb, leb, eqb}
 use lib.Bits.{bitAnd}
 use Rattle.memory.specs.Word.{if_then_else_, high, low}
-use Rattle.memory.specs.Reading.{Reading, check}
+use Rattle.memory.specs.Reading.{Reading, _>>=_, _>>_, check}
 use Rattle.settings.specs.declared.Interlace.{Interlace}
 use Rattle.settings.specs.declared.Interlace.the-variants.{Progressive, RepeatField, Video}
 use Rattle.settings.specs.declared.Edition.{Edition}
@@ -70,9 +70,12 @@ fitsEdition Z8052 σ = fitsMask (σ .flag) && fitsDisplay (σ .interlace) (σ .h
 unfoldable pub good : Settings → Bool
 good σ = inRange σ && inOrder σ && fitsMode (σ .interlace) σ && fitsEdition (σ .edition) σ
 
--- the checks on settings that a start, a row and an effect begin with. Refusal 2: "settings not good"
+-- the checks on settings that a start, a row, an effect and a shift call begin with. Refusal 2: "settings not good"; 02: "17, segmented in a
+-- start, row, effect or shift call, just after 2"
 unfoldable pub checkSettings : Settings → Reading (Unit {0})
-checkSettings σ = check 2 (good σ)
+checkSettings σ = do
+  check 2 (good σ)
+  check 17 (σ .linear)
 
 -- facts on numbers that good settings give, as far as the sheet's sums need them
 pub record Ordered (σ : Settings) : Type 0 where

@@ -114,12 +114,16 @@ pub fn field_timing(sheet: Sheet, n: u32) -> Timing
     if n % 2 == 0 { sheet.even } else { sheet.odd }
 }
 
-// The checks on settings that a start, a row and an effect begin with.
+// The checks on settings that a start, a row, an effect and a shift call begin with: 2, then 17.
 pub fn check_settings(settings: Settings) -> SettingsCheck
     ensures { λ r. ⌜ ((n : ℕ) (m : List ℕ) → settingsChecked n r ≡ runFrom n m (checkSettings settings)) ⌝ }
 {
     if is_good(settings) {
-        SettingsCheck::Passed
+        if settings.linear {
+            SettingsCheck::Passed
+        } else {
+            SettingsCheck::Refused(memory::fault_of(17))
+        }
     } else {
         SettingsCheck::Refused(memory::fault_of(2))
     }

@@ -10,7 +10,7 @@ use Rattle.memory.proofs.ReadBounds.{Reads, dones, bind, check-reads, words-rea
 use Rattle.memory.proofs.Roles.{as-reads}
 use Rattle.settings.specs.declared.PointerWords.{PointerWords}
 use Rattle.settings.specs.declared.Settings.{Settings}
-use Rattle.settings.specs.Good.{good, checkSettings}
+use Rattle.settings.proofs.CheckLaws.{settings-read}
 use Rattle.blocks.specs.Main.{mainBlock, mainBlockAt}
 use Rattle.windows.specs.Window.{firstWindow}
 use Rattle.windows.proofs.WindowBounds.{Placed, window-reads}
@@ -33,8 +33,8 @@ pub record Fresh (latch : ℕ) (s : State) : Type 0 where
   pub placed : Placed (s .fields .window)
 
 pub start-reads : (latch : ℕ) (σ : Settings) → Reads (Fresh latch) 13 (startFrom latch σ)
-unfolding startFrom checkSettings windowStart firstWindow firstFields
+unfolding startFrom windowStart firstWindow firstFields
 start-reads latch σ =
-    bind {n = 0} {k = 13} (lit≤ tt) (check-reads 2 (good σ)) λ _ _.
+    bind {n = 0} {k = 13} (lit≤ tt) (settings-read σ) λ _ _.
     bind {n = 7} {k = 6} (lit≤ tt) (top-reads (σ .linear) (σ .top)) λ _ h.
     bind {n = 6} {k = 0} (lit≤ tt) (window-reads (σ .linear) 0 0 _ (lit≤ tt)) λ _ k. dones (record { row = refl; latched = refl; fill = h .1; placed = k .0 })

@@ -30,7 +30,7 @@ pub enum StartAnswer {
     Refused(Refusal),
 }
 
-// The start of a frame from a latch: its first state and the words read, or refusal 2, 6, 7, 14 or 8.
+// The start of a frame from a latch: its first state and the words read, or refusal 2, 17, 6, 7, 14 or 8.
 pub fn start(settings: Settings, mem: &[u16], latch: u16) -> StartAnswer
     ensures { λ r. ⌜ r ≡ startCall latch settings (now (mem .entry)) ⌝ }
 {

@@ -9,22 +9,13 @@ use Rattle.numbers.specs.declared.decode.SettingsIn.{SettingsIn}
 use Rattle.numbers.specs.declared.decode.SettingsIn.the-variants as Settings-in
 use Rattle.numbers.specs.Decode.{settingsIn}
 use Rattle.answers.specs.AnswerNumbers.{withRefusal}
+use Rattle.answers.specs.Changing.{Left, left}
 use Rattle.blame.specs.declared.Place.{Place}
 use Rattle.blame.specs.declared.Place.the-variants.{Register, Memory}
 use Rattle.mending.specs.declared.Change.{Change}
 use Rattle.mending.specs.declared.MendAnswer.{MendAnswer}
 use Rattle.mending.specs.declared.MendAnswer.the-variants.{Whole, Changed, Refused}
 use Rattle.mending.specs.Mending.{placeAddress, Stepped, mendStep}
-
--- a status, and what stands in the settings, in memory and in the answer
-pub record Left : Type 0 where
-  pub status : ℕ
-  pub settings : List ℕ
-  pub memory : List ℕ
-  pub answer : List ℕ
-
-abbrev pub left : ℕ → List ℕ → List ℕ → List ℕ → Left
-left status settings memory answer = record { status = status; settings = settings; memory = memory; answer = answer }
 
 -- the settings' numbers with the words of the pointer at a place 0: TOW stands at 7 and 8
 unfoldable pub towAfter : Place → List ℕ → List ℕ

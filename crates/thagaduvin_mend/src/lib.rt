@@ -9,8 +9,9 @@ use numbers::encode;
 use settings::Settings;
 ghost use mathlib.Core.Path.{_≡_};
 ghost use lib.ListN.{length};
+ghost use Rattle.answers.specs.Changing.{left};
 ghost use Rattle.mending.specs.Mending.{mendStep};
-ghost use Rattle.thagaduvin_mend.specs.MendCalls.{left, towAfter, changeNumbers, afterStep, hostMend};
+ghost use Rattle.thagaduvin_mend.specs.MendCalls.{towAfter, changeNumbers, afterStep, hostMend};
 
 // One step of mending: a frame is drawn from a latch, and where it is refused one pointer is set to 0, in `memory` or in `settings`; the
 // change in `answer`.

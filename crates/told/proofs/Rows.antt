@@ -23,12 +23,17 @@ use Rattle.start.specs.Top.{registered, enabled, ofWindow, topBlock}
 use Rattle.start.specs.Start.{firstFields, windowStart, startFrom}
 use Rattle.row.specs.Row.{row}
 use Rattle.told.specs.Told.{byTop, byTow}
-use Rattle.told.proofs.Tells.{not-true, Each, dones, bind, check-then, if-tells}
+use Rattle.told.proofs.Tells.{not-true, Each, dones, bind, check-tells, check-then, if-tells}
 use Rattle.told.proofs.Pointers.{Stands, first}
 use Rattle.told.proofs.Blocks.{Says, Pointed, Linked, WindowStands, block-tells, redefined-tells, main-tells, window-tells, due-tells}
 use Rattle.told.proofs.Cells.{OverlayStands, no-list, cells-tell}
 
 module _ (σ : Settings) (m : List ℕ) where
+  -- the checks on settings
+  settings-tell : Says σ m (λ _. Unit {0}) (checkSettings σ)
+  unfolding checkSettings
+  settings-tell = check-then 2 _ (good σ) refl λ _ _. check-tells 17 _ (σ .linear) refl
+
   -- the three pointers of a state
   pub record Standing (f : Fields) : Type 0 where
     pub next : Stands σ m (f .next)
@@ -44,9 +49,9 @@ module _ (σ : Settings) (m : List ℕ) where
       check-then 14 _ (not (enabled b && ofWindow b)) refl λ _ _. dones h
 
   pub start-tells : (latch : ℕ) → Says σ m (λ s. Standing (s .fields)) (startFrom latch σ)
-  unfolding startFrom checkSettings windowStart firstWindow firstFields
+  unfolding startFrom windowStart firstWindow firstFields
   start-tells latch =
-      check-then 2 _ (good σ) refl λ _ _.
+      bind settings-tell λ _ _.
       bind top-tells λ b s.
       bind (window-tells σ m 0 0 (registered (σ .linear) (σ .tow)) (λ _. byTow)) λ w h. dones (record { next = s; window = h })
 
@@ -80,9 +85,9 @@ module _ (σ : Settings) (m : List ℕ) where
     next : Standing (p .next)
 
   plan-tells : (f : Fields) → Standing f → Says σ m Planned (plan σ f)
-  unfolding plan checkSettings nextFields
+  unfolding plan nextFields
   plan-tells f s =
-      check-then 2 _ (good σ) refl λ _ _.
+      bind settings-tell λ _ _.
       check-then 3 _ (inRange f) refl λ _ _.
       check-then 4 _ (ltb 0 (f .left)) refl λ _ _.
       bind (due-tells σ m (f .row) (f .window) (s .window)) λ w hw.

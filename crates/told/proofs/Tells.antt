@@ -53,6 +53,10 @@ module _ {m : List ℕ} {Q : Pointer → Type 0} where
   as-tells (r ∷ rs) (refuses e) = refuses e
   as-tells (r ∷ rs) (asks x g) = asks x λ w y. as-tells rs (g w y)
 
+  pub check-tells : (n : ℕ) (p : Pointer) (b : Bool) → eqb n 7 ≡ false → Tells m Q (λ _. Unit {0}) (checkOf n p b)
+  check-tells n p true h = dones tt
+  check-tells n p false h = refuses h
+
   -- a check and what comes after it, which knows that the check was met
   pub check-then : {B : Type 0} {R : B → Type 0} (n : ℕ) (p : Pointer) (b : Bool) {k : Unit {0} → Reading B} → eqb n 7 ≡ false
       → ((u : Unit {0}) → b ≡ true → Tells m Q R (k u)) → Tells m Q R (checkOf n p b >>= k)

@@ -1,7 +1,8 @@
 //! Each call made on both sides, compared and counted.
 
-use crate::desks::{Desks, Shared};
-use crate::lent::{Differs, Lent, List};
+use crate::convert::Converted;
+use crate::desks::{Desks, Shared, Whole};
+use crate::lent::{Differs, Lent, List, Marks};
 use crate::mend::Mended;
 use compare::bus::Used;
 use compare::desks::Spans;
@@ -15,7 +16,7 @@ pub struct Difference(pub String);
 pub type Checked<T> = Result<T, Difference>;
 
 /// The lines of the table.
-const LINES: [&str; 17] = [
+const LINES: [&str; 18] = [
     "sheet",
     "start",
     "row",
@@ -32,12 +33,14 @@ const LINES: [&str; 17] = [
     "reader of mail",
     "writer of a word",
     "mending",
+    "converter",
     "all",
 ];
 
 /// The statuses of the table: the refusals that these calls can give, 5 to show that none does, and 255.
-const STATUSES: [u8; 23] = [
-    0, 1, 2, 3, 4, 5, 6, 7, 8, 9, 10, 11, 12, 13, 14, 15, 16, 20, 21, 23, 24, 25, 255,
+const STATUSES: [u8; 28] = [
+    0, 1, 2, 3, 4, 5, 6, 7, 8, 9, 10, 11, 12, 13, 14, 15, 16, 17, 18, 19, 20, 21, 22, 23, 24, 25,
+    26, 255,
 ];
 
 /// Calls by line and status; any other status is counted with 255.
@@ -55,6 +58,7 @@ pub struct Tally {
     pub scrolls: Scrolls,
     pub desks: Desks,
     pub mended: Mended,
+    pub converted: Converted,
 }
 
 /// Counts of frames drawn in turn.
@@ -209,6 +213,7 @@ impl Tally {
         self.scrolls.print();
         self.desks.print();
         self.mended.print();
+        self.converted.print();
     }
 }
 
@@ -530,11 +535,41 @@ impl Calls {
         ];
         self.tally.count_call(15, statuses[0]);
         let given = ("mend", from, memory.ours.len(), latch, answers);
-        let status = compare(statuses, &[settings, answer], &given)?;
-        match memory.anywhere() {
-            None => Ok(status),
-            Some(found) => Err(Difference(format!("{found}\nin the call {given:?}"))),
-        }
+        compare(statuses, &[settings, answer, &Whole(memory)], &given)
+    }
+
+    /// A conversion of settings and memory that it may change.
+    pub fn convert(
+        &mut self,
+        from: &[u32],
+        memory: &mut Shared,
+        marks: &mut Marks,
+        latch: u16,
+        answers: usize,
+    ) -> Checked<u8> {
+        let (settings, answer) = (&mut self.settings, &mut self.answer);
+        settings.put(from);
+        answer.mark(answers);
+        let statuses = [
+            host::convert(
+                settings.ours(),
+                &mut memory.ours,
+                marks.ours(),
+                latch,
+                answer.ours(),
+            ),
+            library::convert(
+                settings.theirs(),
+                &mut memory.theirs,
+                marks.theirs(),
+                latch,
+                answer.theirs(),
+            ),
+        ];
+        self.tally.count_call(16, statuses[0]);
+        let given = ("convert", from, memory.ours.len(), latch, answers);
+        let memory = Whole(memory);
+        compare(statuses, &[settings, &memory, marks, answer], &given)
     }
 
     pub fn bus(&mut self, burst: u16, used: &Used, from: &[u64], answers: usize) -> Checked<u8> {

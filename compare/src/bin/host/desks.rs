@@ -66,6 +66,15 @@ impl Differs for Shared {
     }
 }
 
+/// A memory that is looked at everywhere.
+pub struct Whole<'m>(pub &'m Shared);
+
+impl Differs for Whole<'_> {
+    fn difference(&self) -> Option<String> {
+        self.0.anywhere()
+    }
+}
+
 /// Counts of frames whose calls took turns with another desk's.
 #[derive(Default)]
 pub struct Desks {

@@ -39,17 +39,16 @@ const WORDS: usize = 300;
 /// Of a word missing in a frame from a start: whether it is reached from the pointer that begins where the refusal
 /// says; from a register's, or from one that begins at 0, where it says 0.
 fn told(settings: &[u32; SETTINGS], memory: &[u16], refused: &[u32]) -> bool {
-    let linear = settings[0] != 0;
     let &[_, missing, from, ..] = refused else {
         return false;
     };
     let reaches = |first: u16, second: u16| {
-        let begin = pointer(linear, first, second);
-        let mut words = successors(Some(begin), |&address| Some(step(linear, address)));
+        let begin = pointer(first, second);
+        let mut words = successors(Some(begin), |&address| Some(step(address)));
         begin != 0 && words.by_ref().take(WORDS).any(|address| address == missing)
     };
     let word = |address: u32| memory.get(address as usize / 2).copied();
-    if let (Some(first), Some(second)) = (word(from), word(step(linear, from))) {
+    if let (Some(first), Some(second)) = (word(from), word(step(from))) {
         if reaches(first, second) {
             return true;
         }

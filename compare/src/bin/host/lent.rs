@@ -196,6 +196,47 @@ impl Differs for List {
     }
 }
 
+/// Marks lent to both sides, each copy between guards. What they hold after a call is free, so only the guards are compared.
+pub struct Marks {
+    ours: Vec<u8>,
+    theirs: Vec<u8>,
+}
+
+impl Marks {
+    /// So many marks, with anything in them.
+    pub fn new(count: usize, mark: u32) -> Marks {
+        let all: Vec<u8> = (0..(2 * GUARD + count) as u32)
+            .map(|n| n.wrapping_mul(mark) as u8)
+            .collect();
+        Marks {
+            ours: all.clone(),
+            theirs: all,
+        }
+    }
+
+    fn between(marks: &mut [u8]) -> &mut [u8] {
+        let end = marks.len() - GUARD;
+        &mut marks[GUARD..end]
+    }
+
+    pub fn ours(&mut self) -> &mut [u8] {
+        Marks::between(&mut self.ours)
+    }
+
+    pub fn theirs(&mut self) -> &mut [u8] {
+        Marks::between(&mut self.theirs)
+    }
+}
+
+impl Differs for Marks {
+    fn difference(&self) -> Option<String> {
+        let end = self.ours.len() - GUARD;
+        let guards = |marks: &[u8]| [&marks[..GUARD], &marks[end..]].concat();
+        let same = guards(&self.ours) == guards(&self.theirs);
+        (!same).then(|| format!("what stands around {} marks", end - GUARD))
+    }
+}
+
 /// What a call may leave different on the two sides.
 pub trait Differs {
     /// The first place where the two differ, the guards included. This side cannot write outside

@@ -6,6 +6,7 @@
 
 mod bus;
 mod calls;
+mod convert;
 mod desks;
 mod frame;
 mod in_turn;
@@ -386,8 +387,10 @@ fn compare(calls: &mut Calls, rng: &mut Rng, frame: &Frame) -> Checked<()> {
     scroll::odd_rows(calls, rng, frame, &real)?;
     desks::take_turns(calls, rng, frame)?;
     mend::frames(calls, rng, frame)?;
+    convert::frames(calls, rng, frame)?;
     if rng.once_in(8) {
         mend::unfit(calls, rng, frame)?;
+        convert::unfit(calls, rng, frame)?;
     }
     odd_settings(calls, rng, frame, &real)?;
     odd_states(calls, rng, frame, &real)?;

@@ -110,7 +110,9 @@ pub fn frames(calls: &mut Calls, rng: &mut Rng, frame: &Frame) -> Checked<()> {
         let all = &mut calls.tally.mended;
         if status != 0 {
             let same = told.is_some_and(|(number, three)| {
-                number == status && three == answer[..PREFIX] && matches!(number, 2 | 6 | 7 | 14)
+                number == status
+                    && three == answer[..PREFIX]
+                    && matches!(number, 2 | 6 | 7 | 14 | 17)
             });
             must(same && steps == 0, "a frame is refused as it is", &given)?;
             let stays = after == settings && left == before;

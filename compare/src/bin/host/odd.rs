@@ -243,11 +243,20 @@ fn no_part(rng: &mut Rng) -> [u32; PART] {
         _ => [number, some, some, 0, 0, 0],
     };
     match rng.below(6) {
-        0 => part[0] = rng.pick(&[1, 5, 6, 14, 15, 20, 23, 24, 255, 256, 263, u32::MAX]),
+        0 => part[0] = rng.pick(&[1, 5, 6, 14, 15, 16, 18, 20, 23, 24, 255, 256, 263, u32::MAX]),
         // A row, an address or a pointer of no refusal.
         1 => part = [0, 0, 0, 0, part[4], part[5]],
         // A pointer of another refusal than 7.
-        2 => part = [rng.pick(&[2, 3, 4, 8, 9, 10, 11, 12, 13]), 1, 2, some, 0, 0],
+        2 => {
+            part = [
+                rng.pick(&[2, 3, 4, 8, 9, 10, 11, 12, 13, 17]),
+                1,
+                2,
+                some,
+                0,
+                0,
+            ]
+        }
         // A word of a refusal, or of a part that keeps.
         3 => part = [rng.pick(&[0, number]), 0, 0, 0, 0, some],
         4 => part = [number, 0, 0, 0, 1, word],

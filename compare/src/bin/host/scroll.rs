@@ -59,13 +59,9 @@ impl Console<'_> {
         self.settings[5..7].copy_from_slice(&top.map(u32::from));
     }
 
-    fn linear(&self) -> bool {
-        self.settings[0] != 0
-    }
-
     /// The address so many words on.
     fn after(&self, address: u32, words: usize) -> u32 {
-        (0..words).fold(address, |address, _| step(self.linear(), address))
+        (0..words).fold(address, |address, _| step(address))
     }
 
     /// The word at an address, 0 outside memory.
@@ -77,7 +73,7 @@ impl Console<'_> {
     /// The pointer that stands at an address.
     fn pointer_at(&self, address: u32) -> u32 {
         let second = self.word(self.after(address, 1));
-        pointer(self.linear(), self.word(address), second)
+        pointer(self.word(address), second)
     }
 
     fn write(&mut self, address: u32, word: u16) {
@@ -90,7 +86,7 @@ impl Console<'_> {
     /// The hard or the soft main block, and its first row block.
     fn blocks(&self, rng: &mut Rng) -> (u32, u32) {
         let [first, second] = rng.pick(&[self.top(), self.soft]);
-        let main = pointer(self.linear(), first, second);
+        let main = pointer(first, second);
         (main, self.pointer_at(main))
     }
 

@@ -7,9 +7,13 @@ use Rattle.cells.proofs.FinishLaws.{finish-refused, finish-given}
 use Rattle.row.proofs.RowLaws.{plan-drawable, planned-refused, planned-drawn}
 use Rattle.blame.specs.declared.RowWalk.the-variants.{Next}
 use Rattle.blame.specs.Answers.{walked}
+use Rattle.plan.proofs.PlanPassing.{plan-passing}
 use borrow.Author.Needs.{needs}
 use Rattle.blame.proofs.walk_cells.Statement.{statement}
 use Rattle.blame.proofs.walk_cells.Tie as tie
+
+code-settings-requires : tie.Need-code-settings-requires
+code-settings-requires c κs = plan-passing _ _ _ (c .before .before .before .pre) .straight
 
 draw-cells-requires : tie.Need-draw-cells-requires
 draw-cells-requires c κs =
@@ -37,7 +41,7 @@ pub walk-cells-spec : {M : Type 1} → statement M
 walk-cells-spec =
     tie.close
     (tie.spec
-    (λ c κs. search needs)
+    code-settings-requires
     (λ c. search needs)
     draw-cells-requires
     (λ c. search needs)

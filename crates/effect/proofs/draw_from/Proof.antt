@@ -2,9 +2,13 @@
 use Rattle.state.specs.State.{stateOf}
 use Rattle.row.proofs.RowLaws.{plan-drawable}
 use Rattle.effect.proofs.EffectLaws.{cells-row}
+use Rattle.plan.proofs.PlanPassing.{plan-passing}
 use borrow.Author.Needs.{needs}
 use Rattle.effect.proofs.draw_from.Statement.{statement}
 use Rattle.effect.proofs.draw_from.Tie as tie
+
+code-settings-requires : tie.Need-code-settings-requires
+code-settings-requires c κs = plan-passing _ _ _ (c .before .before .before .pre) .straight
 
 draw-cells-requires : tie.Need-draw-cells-requires
 draw-cells-requires c κs =
@@ -19,4 +23,4 @@ returns c =
     (k .0, k .1)
 
 pub draw-from-spec : {M : Type 1} → statement M
-draw-from-spec = tie.close (tie.spec (λ c κs. search needs) (λ c. search needs) draw-cells-requires returns)
+draw-from-spec = tie.close (tie.spec code-settings-requires (λ c. search needs) draw-cells-requires returns)

@@ -1,7 +1,12 @@
 -- Of a planned row what `row_latch` tells is handed on, each arm by its name; of a refused plan nothing is told.
+use Rattle.plan.proofs.PlanPassing.{plan-passing}
 use borrow.Author.Needs.{needs}
 use Rattle.effect.proofs.latch_told.Statement.{statement}
 use Rattle.effect.proofs.latch_told.Tie as tie
+
+code-settings-requires : tie.Need-code-settings-requires
+code-settings-requires c κs =
+    plan-passing _ _ _ (rw (c .before .before .before .answer .given .1) at (c .before .before .before .before .before .before .pre)) .straight
 
 returns : tie.Need-returns
 returns c = rw (c .enum-told .given .1) tt
@@ -27,7 +32,7 @@ latch-told-spec =
     (tie.spec
     (λ c. search needs)
     (λ c. search needs)
-    (λ c κs. search needs)
+    code-settings-requires
     (λ c κs. search needs)
     (λ c. search needs)
     (λ c. search needs)

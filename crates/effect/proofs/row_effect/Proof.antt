@@ -5,6 +5,9 @@ use borrow.Author.Needs.{needs}
 use Rattle.effect.proofs.row_effect.Statement.{statement}
 use Rattle.effect.proofs.row_effect.Tie as tie
 
+latch-told-requires : tie.Need-latch-told-requires
+latch-told-requires c κs = c .before .before .plan-row .ensures
+
 drawn-effect-requires : tie.Need-drawn-effect-requires
 drawn-effect-requires c κs =
     rw (c .before .before .before .answer2 .given .1) at (c .before .before .before .before .before .before .before .before .before .before .plan-row .ensures)
@@ -37,7 +40,7 @@ row-effect-spec =
     tie.close
     (tie.spec
     (λ c κs. search needs)
-    (λ c κs. search needs)
+    latch-told-requires
     (λ c. search needs)
     (λ c κs. search needs)
     (λ c. search needs)

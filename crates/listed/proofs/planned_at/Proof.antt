@@ -12,9 +12,13 @@ use Rattle.row.specs.Row.{row}
 use Rattle.row.proofs.RowLaws.{plan-drawable}
 use Rattle.addresses.proofs.Asked.{asked-row, row-room, cursor-alike}
 use Rattle.listed.proofs.ListedLaws.{accepted-from}
+use Rattle.plan.proofs.PlanPassing.{plan-passing}
 use borrow.Author.Needs.{needs}
 use Rattle.listed.proofs.planned_at.Statement.{statement}
 use Rattle.listed.proofs.planned_at.Tie as tie
+
+code-settings-requires : tie.Need-code-settings-requires
+code-settings-requires c κs = plan-passing _ _ _ (c .before .before .before .before .before .before .before .before .before .before .before .before .pre .0 .1) .straight
 
 put-row-requires : tie.Need-put-row-requires
 put-row-requires c κs =
@@ -60,7 +64,7 @@ planned-at-spec =
     (λ c κs. search needs)
     (λ c. search needs)
     (λ c. search needs)
-    (λ c κs. search needs)
+    code-settings-requires
     put-row-requires
     (λ c. search needs)
     returns

@@ -12,9 +12,13 @@ use Rattle.row.specs.declared.RowAnswer.the-variants.{Refused}
 use Rattle.row.specs.Row.{withCursor, called, answerOf, answered}
 use Rattle.row.proofs.RowBound.{row-bound}
 use Rattle.row.proofs.RowLaws.{plan-drawable, planned-refused, planned-drawn}
+use Rattle.plan.proofs.PlanPassing.{plan-passing}
 use borrow.Author.Needs.{needs}
 use Rattle.row.proofs.draw_planned.Statement.{statement}
 use Rattle.row.proofs.draw_planned.Tie as tie
+
+code-settings-requires : tie.Need-code-settings-requires
+code-settings-requires c κs = plan-passing _ _ _ (c .before .before .before .before .before .pre .1) .straight
 
 draw-cells-requires : tie.Need-draw-cells-requires
 draw-cells-requires c κs =
@@ -49,7 +53,7 @@ pub draw-planned-spec : {M : Type 1} → statement M
 draw-planned-spec =
     tie.close
     (tie.spec
-    (λ c κs. search needs)
+    code-settings-requires
     (λ c. search needs)
     (λ c κs. search needs)
     draw-cells-requires

@@ -1,7 +1,7 @@
 -- Each test of the code is one of `hostMend`'s: the answer's length, then whether the settings fit; `mend_into` gives the rest.
 use borrow.Author.Tests.{eq-eqb, ne-eqb}
+use Rattle.numbers.proofs.LengthLaws.{fit-length}
 use Rattle.thagaduvin_mend.specs.MendCalls.{hostMend}
-use Rattle.thagaduvin_mend.proofs.LengthLaws.{fit-length}
 use borrow.Author.Needs.{needs}
 use Rattle.thagaduvin_mend.proofs.thagaduvin_mend.Statement.{statement}
 use Rattle.thagaduvin_mend.proofs.thagaduvin_mend.Tie as tie

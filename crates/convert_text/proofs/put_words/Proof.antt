@@ -1,0 +1,54 @@
+-- What is written, then the records of the words from i on, are those from the first on: each turn writes one word's, six bytes at most.
+use mathlib.Core.Path.{_≡_, refl}
+use mathlib.Core.List.{_++_}
+use Prim.Native.Nat.{_+_, _-_, _*_, _≤_}
+use native.Mathlib.Omega.{arith}
+use lib.ListN.{length, take, drop}
+use Rattle.convert_text.specs.Written.{wordsText}
+use Rattle.convert_text.proofs.PieceLaws.{word-more}
+use borrow.Author.Needs.{needs}
+use Rattle.convert_text.proofs.put_words.Statement.{statement}
+use Rattle.convert_text.proofs.put_words.Tie as tie
+
+abbrev Inv-loop : tie.InvT-loop
+Inv-loop from end mem out₀ at₀ i₀ out at i =
+    (i ≤ end) × (length out ≡ 2048) × (at + 6 * from ≤ 6 * i) × (take at out ++ wordsText i (drop i mem) ≡ wordsText from (drop from mem))
+
+abbrev μ-loop : tie.MeasureT-loop
+μ-loop from end mem out₀ at₀ i₀ out at i = end - i
+
+loop-holds : tie.Need-loop-holds Inv-loop μ-loop
+loop-holds c = (omega (arith, c .before .before .pre .0), search needs, omega arith, refl)
+
+loop-again : tie.Need-loop-again Inv-loop μ-loop
+loop-again c =
+    let p = c .before .before .put-word in
+    let l = c .before .before .before .before .before .before .loop in
+    let m = c .before .before .before .before .before .before .before .before .before .args .mem .now in (
+      omega arith,
+      search needs,
+      omega (arith, p .ensures .0),
+      word-more m _ (take (l .at) (l .out)) (take (p .result) (p .last .0)) (l .i) (omega arith) (l .inv .3) (p .ensures .1),
+    )
+
+returns : tie.Need-returns Inv-loop μ-loop
+returns c =
+    let l = c .before .loop in
+    let e : l .i ≡ c .before .before .before .before .args .end = omega arith in
+    (omega arith, rw e at (l .inv .3))
+
+pub put-words-spec : {M : Type 1} → statement M
+put-words-spec =
+    tie.close
+    (tie.spec
+    Inv-loop
+    μ-loop
+    loop-holds
+    (λ c. search needs)
+    (λ c. search needs)
+    (λ c κs. search needs)
+    (λ c. search needs)
+    (λ c. search needs)
+    loop-again
+    (λ c. search needs)
+    returns)

@@ -1,0 +1,4 @@
+pub mod Written
+pub mod Ranges
+pub mod ConvertText
+pub mod ToCome

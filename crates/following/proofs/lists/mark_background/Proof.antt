@@ -1,0 +1,36 @@
+-- The row block is marked and then read with its checks; check 12 asks for nothing.
+use mathlib.Core.Path.{sym, _∙_}
+use Rattle.following.proofs.ListLaws.{then-faulted, then-refused, then-given}
+use borrow.Author.Needs.{needs}
+use Rattle.following.proofs.lists.mark_background.Statement.{statement}
+use Rattle.following.proofs.lists.mark_background.Tie as tie
+
+returns : tie.Need-returns
+returns c = sym (then-faulted _ _ _ _ _ _ (sym (rw (c .before .fault .given .1) at (c .before .before .before .before .before .mark-row .ensures))))
+
+returns-2 : tie.Need-returns-2
+returns-2 c =
+    sym (then-refused _ _ _ _ _ _ (sym (rw (c .before .before .before .before .enum-told .given .1) at (c .before .before .before .before .before .before .before .before .mark-row .ensures))) (sym (rw (c .enum-told2 .given .1) at (c .before .before .background-row .ensures))))
+
+returns-3 : tie.Need-returns-3
+returns-3 c =
+    c .before .before .mark-overlay .ensures
+    ∙ sym (then-given _ _ _ _ _ _ (sym (rw (c .before .before .before .before .before .before .before .before .enum-told .given .1) at (c .before .before .before .before .before .before .before .before .before .before .before .before .mark-row .ensures))) (sym (rw (c .before .before .before .before .enum-told3 .given .1) at (c .before .before .before .before .before .before .background-row .ensures))))
+
+pub mark-background-spec : {M : Type 1} → statement M
+mark-background-spec =
+    tie.close
+    (tie.spec
+    (λ c κs. search needs)
+    (λ c. search needs)
+    (λ c. search needs)
+    (λ c κs. search needs)
+    (λ c. search needs)
+    (λ c. search needs)
+    (λ c κs. search needs)
+    (λ c. search needs)
+    returns
+    (λ c. search needs)
+    returns-2
+    (λ c. search needs)
+    returns-3)

@@ -1,0 +1,45 @@
+-- The first three words, then the rest as the third of them says.
+use mathlib.Core.Path.{_≡_, ap, sym, _∙_}
+use Prim.Native.Nat.{ℕ, _%_}
+use borrow.Author.Tests.{eq-eqb, ne-eqb}
+use Rattle.memory.specs.Reading.{onePointer}
+use Rattle.memory.specs.Address.{ahead}
+use Rattle.converter.specs.Walk.{wordOf}
+use Rattle.marking.proofs.TrailLaws.{wordsIn}
+use Rattle.following.proofs.ListLaws.{block-null, block-faulted, block-passed, third-word}
+use Rattle.marking.proofs.MarkLaws.{one-shaped}
+use borrow.Author.Needs.{needs}
+use Rattle.following.proofs.lists.mark_block.Statement.{statement}
+use Rattle.following.proofs.lists.mark_block.Tie as tie
+
+returns : tie.Need-returns
+returns c = sym (block-null _ _ _ _ _ _ (eq-eqb _ 0 (c .if1 .taken)))
+
+returns-2 : tie.Need-returns-2
+returns-2 c = sym (block-faulted _ _ _ _ _ _ (ne-eqb _ 0 (c .before .before .before .before .before .before .before .if1 .left)) (sym (rw (c .before .fault .given .1) at (c .before .before .before .before .before .mark-words .ensures onePointer (one-shaped 3)))))
+
+returns-3 : tie.Need-returns-3
+returns-3 c =
+    let a = c .before .before .before .before .before .before .before .before .before .before .before .before .before .before .before .before .before .args in
+    let w : c .before .before .before .before .before .word-in .result ≡ wordOf (a .mem .now) (ahead (a .linear) 2 (a .p .address)) = c .before .before .before .before .before .word-in .ensures ∙ ap (wordOf (a .mem .now)) (c .before .before .before .before .before .before .words-ahead .ensures) in
+    let h = third-word 0 (a .mem .now) (a .linear) (a .p .address) ∙ ap (λ (x : ℕ). x % 16) (sym w) in
+    (rw (c .before .before .before .pointed .ensures .0, w) at (c .before .before .mark-rest .ensures (wordsIn (a .linear) (a .mem .now) 3 (a .p .address)) h))
+    ∙ sym (block-passed _ _ _ _ _ _ (ne-eqb _ 0 (c .before .before .before .before .before .before .before .before .before .before .before .before .before .if1 .left)) (sym (rw (c .before .before .before .before .before .before .before .enum-told .given .1) at (c .before .before .before .before .before .before .before .before .before .before .before .mark-words .ensures onePointer (one-shaped 3)))))
+
+pub mark-block-spec : {M : Type 1} → statement M
+mark-block-spec =
+    tie.close
+    (tie.spec
+    returns
+    (λ c κs. search needs)
+    (λ c. search needs)
+    (λ c. search needs)
+    (λ c κs. search needs)
+    (λ c κs. search needs)
+    (λ c κs. search needs)
+    (λ c. search needs)
+    (λ c κs. search needs)
+    (λ c. search needs)
+    returns-2
+    (λ c. search needs)
+    returns-3)

@@ -1,0 +1,31 @@
+-- The walk of the cells gives the latch of the next state.
+use mathlib.Core.List.{[]}
+use Rattle.following.proofs.RowLaws.{narrow, planned-halted, planned-went}
+use borrow.Author.Needs.{needs}
+use Rattle.following.proofs.rows.walk_planned.Statement.{statement}
+use Rattle.following.proofs.rows.walk_planned.Tie as tie
+
+walk-cells-requires : tie.Need-walk-cells-requires
+walk-cells-requires c κs =
+    let a = c .before .before .before .before .before .before .args in
+    let p = c .before .before .before .before .before .before .pre in
+    (p .0, narrow (a .settings) (a .mem .now) (λ i. c .before .before .before .before .before .shared-slice-known .given i .fits) (a .state .fields) (a .p) (a .back .now) (a .over .now) (p .2))
+
+returns : tie.Need-returns
+returns c = planned-halted (c .before .before .before .before .before .before .before .before .before .before .before .before .args .settings) _ _ _ _ _ (rw (c .before .fault .given .1, c .before .before .before .before .before .before .before .code-settings .ensures) at (c .before .before .before .before .before .walk-cells .ensures []))
+
+returns-2 : tie.Need-returns-2
+returns-2 c = planned-went (c .before .before .before .before .before .before .before .before .before .before .before .before .before .args .settings) _ _ _ _ _ (rw (c .before .before .pen .given .1, c .before .before .before .before .before .before .before .before .code-settings .ensures) at (c .before .before .before .before .before .before .walk-cells .ensures []))
+
+pub walk-planned-spec : {M : Type 1} → statement M
+walk-planned-spec =
+    tie.close
+    (tie.spec
+    (λ c κs. search needs)
+    walk-cells-requires
+    (λ c. search needs)
+    (λ c. search needs)
+    (λ c. search needs)
+    returns
+    (λ c. search needs)
+    returns-2)

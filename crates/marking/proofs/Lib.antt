@@ -1,0 +1,4 @@
+pub mod TrailLaws
+pub mod MarkLaws
+pub mod PenLaws
+pub mod CodeLaws

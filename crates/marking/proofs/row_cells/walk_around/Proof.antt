@@ -1,0 +1,69 @@
+-- The three stretches follow one another as in the definition.
+use mathlib.Core.Path.{_∙_}
+use native.Mathlib.Omega.{arith}
+use Rattle.blocks.specs.RowBlock.{segmentsOf}
+use Rattle.layout.proofs.LayoutLaws.{whole-all}
+use Rattle.codes.specs.Attribute.{Background, Window}
+use Rattle.cells.specs.Cells.{rowCells}
+use Rattle.marking.proofs.PenLaws.{then-halted, then-went}
+use borrow.Author.Needs.{needs}
+use Rattle.marking.proofs.row_cells.walk_around.Statement.{statement}
+use Rattle.marking.proofs.row_cells.walk_around.Tie as tie
+
+walk-run-requires-2 : tie.Need-walk-run-requires-2
+walk-run-requires-2 c κs =
+    let h = rw (c .before .before .before .before2 .given .1) at (c .before .before .before .before .before .before .before .walk-run .ensures .0) in
+    (c .before .before .before .before .before .before .before .walk-run .kept .1 .0 ∙ c .before .before .before .before .before .before .before .before .before .before .before .pre .0, rw (c .before .with-list .ensures) (omega (arith, h, c .before .before .before .before .before .before .before .before .before .before .before .pre .1)), c .before .before .before .before .before .before .before .before .before .before .before .pre .3)
+
+walk-run-requires-3 : tie.Need-walk-run-requires-3
+walk-run-requires-3 c κs =
+    let h = rw (c .before .before .before .before .before .before .before .before .before .before .before .before .before2 .given .1) at (c .before .before .before .before .before .before .before .before .before .before .before .before .before .before .before .before .walk-run .ensures .0) in
+    let i = rw (c .before .before .before .before .after .given .1, c .before .before .before .before .before .before .before .before .before .before .with-list .ensures) at (c .before .before .before .before .before .before .before .before .walk-run2 .ensures .0) in (
+      c .before .before .before .before .before .before .before .before .walk-run2 .kept .1 .0 ∙ c .before .before .before .before .before .before .before .before .before .before .before .before .before .before .before .before .walk-run .kept .1 .0 ∙ c .before .before .before .before .before .before .before .before .before .before .before .before .before .before .before .before .before .before .before .before .pre .0,
+      rw (c .before .using-list .ensures) (omega (arith, h, i, c .before .before .before .before .before .before .before .before .before .before .before .before .before .before .before .before .before .before .before .before .pre .1)),
+      omega arith,
+    )
+
+same-length-3 : tie.Need-same-length-3
+same-length-3 c = c .before .before .walk-run3 .kept .1 .0 ∙ c .before .before .before .before .before .before .before .before .before .before .before .walk-run2 .kept .1 .0 ∙ c .before .before .before .before .before .before .before .before .before .before .before .before .before .before .before .before .before .before .before .walk-run .kept .1 .0
+
+returns : tie.Need-returns
+unfolding rowCells
+returns c = λ number cs. then-halted _ _ _ _ (rw (c .before .fault .given .1) at (c .before .before .before .before .before .walk-run .ensures .1 Background cs))
+
+returns-2 : tie.Need-returns-2
+unfolding rowCells
+returns-2 c = λ number cs.
+    let a = c .before .before .before .before .before .before .before .before .before .before .before .before .before .before .before .before .before .args in
+    let ws = segmentsOf (a .settings .linear) (a .n) (a .window .now) in
+    then-went _ _ _ _ (rw (c .before .before .before .before .before .before .before .before .before .before2 .given .1) at (c .before .before .before .before .before .before .before .before .before .before .before .before .before .walk-run .ensures .1 Background cs))
+    (λ ds. then-halted _ _ _ _ (rw (c .before .fault2 .given .1, c .before .before .before .before .before .before .before .with-list .ensures, whole-all (a .settings .hidden) 0 ws) at (c .before .before .before .before .before .walk-run2 .ensures .1 (Window number) ds)))
+
+returns-3 : tie.Need-returns-3
+unfolding rowCells
+returns-3 c = λ number cs.
+    let a = c .before .before .before .before .before .before .before .before .before .before .before .before .before .before .before .before .before .before .before .before .before .before .before .args in
+    let ws = segmentsOf (a .settings .linear) (a .n) (a .window .now) in
+    then-went _ _ _ _ (rw (c .before .before .before .before .before .before .before .before .before .before .before .before .before .before .before .before2 .given .1) at (c .before .before .before .before .before .before .before .before .before .before .before .before .before .before .before .before .before .before .before .walk-run .ensures .1 Background cs))
+    (λ ds. then-went _ _ _ _ (rw (c .before .before .before .before .before .before .before .after .given .1, c .before .before .before .before .before .before .before .before .before .before .before .before .before .with-list .ensures, whole-all (a .settings .hidden) 0 ws) at (c .before .before .before .before .before .before .before .before .before .before .before .walk-run2 .ensures .1 (Window number) ds))
+    (λ es. rw (c .before .before .before .before .using-list .ensures) at (c .before .before .walk-run3 .ensures .1 Background es)))
+
+pub walk-around-spec : {M : Type 1} → statement M
+walk-around-spec =
+    tie.close
+    (tie.spec
+    (λ c κs. search needs)
+    (λ c. search needs)
+    (λ c. search needs)
+    (λ c κs. search needs)
+    walk-run-requires-2
+    (λ c. search needs)
+    (λ c. search needs)
+    (λ c κs. search needs)
+    walk-run-requires-3
+    (λ c. search needs)
+    returns
+    (λ c. search needs)
+    returns-2
+    same-length-3
+    returns-3)
