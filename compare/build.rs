@@ -1,5 +1,5 @@
-//! Links libthagaduvin.a and libthagaduvin_mend.a to the programs that call them, and libthagaduvin_scroll.a and libthagaduvin_convert.a to
-//! the one that scrolls and converts, from the folder HOST_LIB or ../target/staticlib.
+//! Links libthagaduvin.a, libthagaduvin_effect.a and libthagaduvin_mend.a to the programs that call them, and libthagaduvin_scroll.a and
+//! libthagaduvin_convert.a to the one that scrolls and converts, from the folder HOST_LIB or ../target/staticlib.
 
 use std::{env, path::PathBuf};
 
@@ -12,6 +12,7 @@ fn main() {
     println!("cargo::rerun-if-env-changed=HOST_LIB");
     for (name, programs) in [
         ("libthagaduvin.a", &["host", "measure"][..]),
+        ("libthagaduvin_effect.a", &["host", "measure"]),
         ("libthagaduvin_mend.a", &["host", "measure"]),
         ("libthagaduvin_scroll.a", &["host"]),
         ("libthagaduvin_convert.a", &["host"]),

@@ -1,8 +1,8 @@
 /* The last row of a screen drawn alone: the sheet says how many lines there are, the effects of the rows above are joined from the empty
  * one, and applied to the frame's start latch they give the latch that the row is drawn from. Then the same row drawn in turn.
  *
- *     rt staticlib thagaduvin
- *     cc -O2 -Iinclude examples/alone.c target/staticlib/libthagaduvin.a -o target/alone && target/alone */
+ *     rt staticlib thagaduvin && rt staticlib thagaduvin_effect
+ *     cc -O2 -Iinclude examples/alone.c target/staticlib/libthagaduvin_effect.a target/staticlib/libthagaduvin.a -o target/alone && target/alone */
 #include <stdio.h>
 #include "thagaduvin.h"
 

@@ -244,18 +244,6 @@ uint8_t thagaduvin_row(const uint32_t *settings, size_t settings_count, const ui
  * and ends no frame. The status is 0 or 255. */
 uint8_t thagaduvin_latch(uint16_t latch, const uint32_t *state, size_t state_count, uint32_t *answer, size_t answer_count);
 
-/* The effect of the row of `state` on any latch, into `effect`; and the next state into `state`, all but its latch, which stays. Where
- * both parts refuse, all of `state` stays. A refusal stands in the parts: the status is 0 or 255. */
-uint8_t thagaduvin_effect(const uint32_t *settings, size_t settings_count, const uint16_t *memory, size_t memory_count,
-                          uint32_t *state, size_t state_count, uint32_t *effect, size_t effect_count);
-
-/* The effect `first` and then the effect `second`, into `joined`. The status is 0 or 255. */
-uint8_t thagaduvin_join(const uint32_t *first, size_t first_count, const uint32_t *second, size_t second_count,
-                        uint32_t *joined, size_t joined_count);
-
-/* The latch that an effect makes of `latch`, or its refusal. */
-uint8_t thagaduvin_apply(const uint32_t *effect, size_t effect_count, uint16_t latch, uint32_t *answer, size_t answer_count);
-
 /* A row of a bus report, which is handed in: the burst register (space in the high byte, count in the low), the words read for the row,
  * its screen and its number. The words of a start go with row 0: hand in their sum, as one count. The bursts are the words over the
  * count, rounded up; between two bursts of a row the bus is released for 15 system clocks times the space at least. A space of 0 keeps
@@ -284,7 +272,21 @@ uint8_t thagaduvin_read_mail(const uint8_t *text, size_t text_count, uint16_t *c
 uint8_t thagaduvin_write_word(uint16_t *memory, size_t memory_count, uint32_t own_first, uint32_t own_last, uint32_t other_first,
                               uint32_t other_last, uint32_t address, uint16_t word);
 
-/* The calls of a soft scroll are in a library of their own, libthagaduvin_scroll.a; all others in libthagaduvin.a. */
+/* The calls above are in libthagaduvin.a, those on effects in a library of their own, libthagaduvin_effect.a. */
+
+/* The effect of the row of `state` on any latch, into `effect`; and the next state into `state`, all but its latch, which stays. Where
+ * both parts refuse, all of `state` stays. A refusal stands in the parts: the status is 0 or 255. */
+uint8_t thagaduvin_effect(const uint32_t *settings, size_t settings_count, const uint16_t *memory, size_t memory_count,
+                          uint32_t *state, size_t state_count, uint32_t *effect, size_t effect_count);
+
+/* The effect `first` and then the effect `second`, into `joined`. The status is 0 or 255. */
+uint8_t thagaduvin_join(const uint32_t *first, size_t first_count, const uint32_t *second, size_t second_count,
+                        uint32_t *joined, size_t joined_count);
+
+/* The latch that an effect makes of `latch`, or its refusal. */
+uint8_t thagaduvin_apply(const uint32_t *effect, size_t effect_count, uint16_t latch, uint32_t *answer, size_t answer_count);
+
+/* The calls of a soft scroll are in a library of their own, libthagaduvin_scroll.a. */
 
 /* The shift call, before each frame: from the last frame's scroll to this one's, in `scroll`, and the frame's hard top into the answer;
  * the console puts that into TOP and then starts the frame. TOP is the last frame's hard top; `soft_first` and `soft_second` are the two

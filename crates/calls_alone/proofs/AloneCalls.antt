@@ -44,7 +44,7 @@ use Rattle.effects.specs.EffectNumbers.{effectIn, effectNumbers}
 use Rattle.effects.specs.AfterEffect.{stepped, afterEffect, afterApply}
 use Rattle.effects.proofs.EffectAgain.{effect-again}
 use Rattle.thagaduvin.specs.Calls.{hostRow}
-use Rattle.thagaduvin.specs.EffectCalls.{hostEffect, hostJoin, hostApply}
+use Rattle.thagaduvin_effect.specs.EffectCalls.{hostEffect, hostJoin, hostApply}
 use Rattle.told.proofs.Tells.{not-true}
 use Rattle.refusals.specs.Refusals.{rowListedNumbers, ofRow, has, within}
 use Rattle.refusals.proofs.ToldListed.{row-listed-told}

@@ -12,7 +12,7 @@ use Rattle.numbers.specs.Decode.{isState}
 use Rattle.answers.specs.AfterCall.{Answered, Stated}
 use Rattle.listed_answers.specs.AfterListed.{DrawnListed}
 use Rattle.thagaduvin.specs.Calls.{hostRow}
-use Rattle.thagaduvin.specs.EffectCalls.{hostEffect, hostJoin, hostApply}
+use Rattle.thagaduvin_effect.specs.EffectCalls.{hostEffect, hostJoin, hostApply}
 use Rattle.read_back.specs.ReadBack.{Words, Numbers}
 
 -- the slices lent to a row call, of any length and with any numbers; and what the claim leaves free: the latch of the effect call made for

@@ -30,7 +30,7 @@ use Rattle.effects.specs.declared.decode.EffectIn.{EffectIn}
 use Rattle.effects.specs.declared.decode.EffectIn.the-variants as Effect-in
 use Rattle.effects.specs.EffectNumbers.{effectIn}
 use Rattle.thagaduvin.specs.Calls.{sheetFrom, hostSheet, startFrom, hostStart, rowFrom, rowWith, hostRow, latchFrom, hostLatch}
-use Rattle.thagaduvin.specs.EffectCalls.{effectFrom, effectWith, hostEffect, joinFrom, joinWith, hostJoin, applyFrom, hostApply}
+use Rattle.thagaduvin_effect.specs.EffectCalls.{effectFrom, effectWith, hostEffect, joinFrom, joinWith, hostJoin, applyFrom, hostApply}
 use Rattle.thagaduvin.specs.MailCalls.{writeFrom, hostWriteMail, hostReadMail}
 use Rattle.thagaduvin.specs.BusCalls.{hostBus}
 use Rattle.thagaduvin.specs.WriterCalls.{hostWriteWord}

@@ -7,7 +7,7 @@ use mathlib.Core.List.{List, [], _∷_}
 use Rattle.bus.specs.declared.BusRow.{BusRow}
 use Rattle.writer.specs.declared.Span.{Span}
 use Rattle.thagaduvin.specs.Calls.{hostSheet, hostStart, hostRow, hostLatch}
-use Rattle.thagaduvin.specs.EffectCalls.{hostEffect, hostJoin, hostApply}
+use Rattle.thagaduvin_effect.specs.EffectCalls.{hostEffect, hostJoin, hostApply}
 use Rattle.thagaduvin.specs.MailCalls.{hostWriteMail, hostReadMail}
 use Rattle.thagaduvin.specs.BusCalls.{hostBus}
 use Rattle.thagaduvin.specs.WriterCalls.{hostWriteWord}

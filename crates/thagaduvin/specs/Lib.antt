@@ -1,5 +1,4 @@
 pub mod Calls
-pub mod EffectCalls
 pub mod MailCalls
 pub mod BusCalls
 pub mod WriterCalls

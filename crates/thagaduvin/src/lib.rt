@@ -11,7 +11,6 @@ ghost use Rattle.listed_answers.specs.AfterListed.{statedListed, drawnListed};
 ghost use Rattle.thagaduvin.specs.Calls.{hostSheet, hostStart, hostRow, hostLatch};
 
 mod bus_calls; // the call of the bus report
-mod effect_calls; // the calls on effects of rows
 mod mail_calls; // the calls of a row's text
 mod writer_calls; // the writer call of two desks
 

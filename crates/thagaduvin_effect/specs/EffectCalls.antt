@@ -1,4 +1,5 @@
--- The calls of a console on effects of rows; their statuses are those of Calls.
+-- The calls of a console on effects of rows. Status 0 is an accepted call, 255 one whose slices have the wrong length or a number that no
+-- field can have; others are the refusals' numbers.
 use Prim.Native.Nat.{ℕ}
 use mathlib.Core.List.{List}
 use lib.ListN.{length}

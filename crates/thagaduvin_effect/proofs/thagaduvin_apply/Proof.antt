@@ -1,9 +1,9 @@
 -- Each test of the code is one of `hostApply`'s: the answer's length, then whether the effect fits; `applied` gives the rest.
 use borrow.Author.Tests.{eq-eqb, ne-eqb}
-use Rattle.thagaduvin.specs.EffectCalls.{hostApply}
+use Rattle.thagaduvin_effect.specs.EffectCalls.{hostApply}
 use borrow.Author.Needs.{needs}
-use Rattle.thagaduvin.proofs.effect_calls.thagaduvin_apply.Statement.{statement}
-use Rattle.thagaduvin.proofs.effect_calls.thagaduvin_apply.Tie as tie
+use Rattle.thagaduvin_effect.proofs.thagaduvin_apply.Statement.{statement}
+use Rattle.thagaduvin_effect.proofs.thagaduvin_apply.Tie as tie
 
 returns : tie.Need-returns
 unfolding hostApply

@@ -1,4 +1,5 @@
-// The calls on effects of rows.
+// A console's calls on effects of rows (libthagaduvin_effect.a), over slices and with statuses as thagaduvin's. They stand apart from
+// libthagaduvin.a so that its rows keep their time: an effect has the plan of a row in it once more.
 use effects::decode::EffectIn;
 use effects::encode;
 use numbers::decode;
@@ -6,7 +7,7 @@ use numbers::decode::SettingsIn;
 use numbers::decode::StateIn;
 ghost use mathlib.Core.Path.{_≡_};
 ghost use Rattle.answers.specs.AfterCall.{answered, stated};
-ghost use Rattle.thagaduvin.specs.EffectCalls.{hostEffect, hostJoin, hostApply};
+ghost use Rattle.thagaduvin_effect.specs.EffectCalls.{hostEffect, hostJoin, hostApply};
 
 // The effect of the next row, in `effect`; the next state's fields but the latch, in `state`.
 #[no_mangle]

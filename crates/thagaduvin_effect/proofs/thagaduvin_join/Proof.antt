@@ -1,9 +1,12 @@
 -- Each test of the code is one of `hostJoin`'s: the length of `joined`, then whether each effect fits; then the join's numbers are written.
+use mathlib.Core.Path.{ap, _∙_}
 use borrow.Author.Tests.{eq-eqb, ne-eqb}
-use Rattle.thagaduvin.specs.EffectCalls.{hostJoin}
+use Rattle.answers.specs.AfterCall.{answered}
+use Rattle.effects.specs.EffectNumbers.{effectNumbers}
+use Rattle.thagaduvin_effect.specs.EffectCalls.{hostJoin}
 use borrow.Author.Needs.{needs}
-use Rattle.thagaduvin.proofs.effect_calls.thagaduvin_join.Statement.{statement}
-use Rattle.thagaduvin.proofs.effect_calls.thagaduvin_join.Tie as tie
+use Rattle.thagaduvin_effect.proofs.thagaduvin_join.Statement.{statement}
+use Rattle.thagaduvin_effect.proofs.thagaduvin_join.Tie as tie
 
 returns : tie.Need-returns
 unfolding hostJoin
@@ -18,9 +21,8 @@ returns-2 c =
       c .before .before .before .before .before .before .before .before .before .before .d .given .1,
       ← c .before .before .before .before .before .before .before .before .effect-in2 .ensures,
       c .before .before .before .before .before .before .e .given .1,
-      c .before .before .write-effect .ensures,
-      c .before .before .before .before .join .ensures,
     )
+    (ap (answered 0) (c .before .before .write-effect .ensures ∙ ap effectNumbers (c .before .before .before .before .join .ensures)))
 
 returns-3 : tie.Need-returns-3
 unfolding hostJoin

@@ -2,11 +2,11 @@
 -- state that fits has 23 numbers, so the next one can be written over it.
 use mathlib.Core.Path.{sym, _∙_}
 use borrow.Author.Tests.{eq-eqb, ne-eqb}
-use Rattle.thagaduvin.specs.EffectCalls.{hostEffect}
+use Rattle.thagaduvin_effect.specs.EffectCalls.{hostEffect}
 use Rattle.numbers.proofs.PlaceLaws.{state-size}
 use borrow.Author.Needs.{needs}
-use Rattle.thagaduvin.proofs.effect_calls.thagaduvin_effect.Statement.{statement}
-use Rattle.thagaduvin.proofs.effect_calls.thagaduvin_effect.Tie as tie
+use Rattle.thagaduvin_effect.proofs.thagaduvin_effect.Statement.{statement}
+use Rattle.thagaduvin_effect.proofs.thagaduvin_effect.Tie as tie
 
 next-effect-requires : tie.Need-next-effect-requires
 next-effect-requires c κs =
