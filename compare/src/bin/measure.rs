@@ -388,6 +388,7 @@ fn main() {
     );
     rows("row, dense: 9 segments and window of 3, 1 in 3", divided());
     rows("row, dense without invoking codes", dense(0x20, 0, true));
+    rows("row, dense with fill flag", dense(0x120, 3, true));
     rows("row, text without a list", text(0, false));
     rows("row, text with a list, none invokes", text(0, true));
     rows("row, text with a list, 1 in 3", text(3, true));

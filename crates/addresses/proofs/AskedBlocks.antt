@@ -31,7 +31,8 @@ use Rattle.background.specs.Background.{BackgroundRow, backgroundBlock, backgro
 use Rattle.plan.specs.Plan.{Plan, plan}
 use Rattle.start.specs.Top.{registered, topBlock, enabled, ofWindow}
 use Rattle.start.specs.Start.{windowStart, startFrom}
-use Rattle.addresses.specs.Addresses.{wordIn, inTurn, pointed, headWord, blockWords, pointerIn, redefinitionOf, dueOf, rowsOf, overRows, planAddresses, startAddresses}
+use Rattle.noting.specs.Noting.{inTurn}
+use Rattle.addresses.specs.Addresses.{wordIn, pointed, headWord, blockWords, pointerIn, redefinitionOf, dueOf, rowsOf, overRows, planAddresses, blockAddresses, startAddresses}
 use Rattle.addresses.proofs.Trace.{Trace, dones, asks, parts, joined, alone, trace-done, trace-check, trace-check-of, trace-as, no-refusal}
 
 -- words one after the other: their addresses, and each as memory has it
@@ -258,8 +259,8 @@ module _ (m : List ℕ) (σ : Settings) where
 
   -- the blocks of a row
   pub plan-asked : (f : Fields) {xs : List ℕ} {p : Plan} → Trace m (plan σ f) xs p
-      → xs ≡ planAddresses (σ .linear) m (dueOf (f .row) (f .window)) (f .next) (overRows (σ .linear) m (f .row) (f .window) (p .overlay))
-  unfolding plan backgroundRow planAddresses
+      → xs ≡ blockAddresses (σ .linear) m f (p .overlay)
+  unfolding plan backgroundRow planAddresses blockAddresses
   plan-asked f t =
       let l = σ .linear in
       let t₁ = trace-check 4 (ltb 0 (f .left)) _ (trace-check 3 (inRange f) _ (settings-traced _ t) .1) .1 in

@@ -10,7 +10,8 @@ use Rattle.memory.specs.Address.{onward}
 use Rattle.codes.specs.declared.CodeSettings.{CodeSettings}
 use Rattle.codes.specs.declared.AttributeList.{AttributeList}
 use Rattle.codes.specs.Attribute.{invokes}
-use Rattle.addresses.specs.Addresses.{wordIn, inTurn, taken, listAfter, takes, codeAfter, pair, pairAfter, single, codeAddresses, codeList}
+use Rattle.noting.specs.Noting.{inTurn}
+use Rattle.addresses.specs.Addresses.{wordIn, taken, listAfter, takes, codeAfter, pair, pairAfter, single, codeAddresses, codeList}
 
 module _ (σ : CodeSettings) (m : List ℕ) (left : ℕ) (p : Pointer) (l : AttributeList) where
   pub pair-addresses : 1 < left

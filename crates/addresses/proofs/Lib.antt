@@ -2,7 +2,6 @@ pub mod PlaceLaws
 pub mod Trace
 pub mod CodeAddressLaws
 pub mod ListedLaws
-pub mod MostLaws
 pub mod SideAddressLaws
 pub mod AskedCodes
 pub mod AskedFill

@@ -1,10 +1,10 @@
 -- Words none of whose codes invokes: they take no word of the list, so their addresses stand one after the other.
 use mathlib.Core.Path.{_≡_, refl, ap, ap₂, sym, _∙_}
 use mathlib.Core.List.{List, [], _∷_, _++_}
-use mathlib.Core.Bool.{Bool, true, false, _||_, or-assoc}
+use mathlib.Core.Bool.{Bool, true, false, _||_}
 use Prim.Native.Nat.{ℕ, zero, suc, _+_, _-_, _*_, _/_, _<_, _≤_}
 use native.Mathlib.Omega.{arith}
-use native.Mathlib.Nat.{add-zero, zero-add}
+use native.Mathlib.Nat.{add-zero}
 use lib.ListN.{length, getD, length-append}
 use lib.Seq.{sets}
 use Rattle.memory.specs.Word.{high, low}
@@ -15,10 +15,11 @@ use Rattle.memory.proofs.RunLaws.{run-ahead}
 use Rattle.codes.specs.declared.CodeSettings.{CodeSettings}
 use Rattle.codes.specs.declared.AttributeList.{AttributeList}
 use Rattle.codes.specs.Attribute.{invokes}
+use Rattle.noting.specs.Noting.{inTurn, someInvoke}
 use Rattle.addresses.specs.declared.Written.{Written}
 use Rattle.addresses.specs.declared.of_listed.Rest.{Rest}
-use Rattle.addresses.specs.Addresses.{wordIn, inTurn, pair, pairAfter, codeAddresses, codeList}
-use Rattle.addresses.specs.Listed.{listFrom, leftAddresses, leftWritten, past, someInvoke}
+use Rattle.addresses.specs.Addresses.{wordIn, pair, pairAfter, codeAddresses, codeList}
+use Rattle.addresses.specs.Listed.{listFrom, leftAddresses, leftWritten, past}
 use Rattle.addresses.proofs.PlaceLaws.{sets-append, length-turn}
 use Rattle.addresses.proofs.CodeAddressLaws.{pair-addresses, pair-list}
 
@@ -26,61 +27,12 @@ use Rattle.addresses.proofs.CodeAddressLaws.{pair-addresses, pair-list}
 pub from-next : (l : AttributeList) → l .present ≡ true → l ≡ listFrom (l .next)
 from-next l e = ap (λ (b : Bool). record { present = b; next = l .next }) e
 
--- tests joined by "or"
-or-join : (a b c d : Bool) → a || (b || c || d) ≡ a || b || c || d
-or-join true b c d = refl
-or-join false b c d = refl
-
-or-false : (b : Bool) → b || false ≡ b
-or-false true = refl
-or-false false = refl
-
+-- neither of two tests
 or-none : (a b : Bool) → a || b ≡ false → (a ≡ false) × (b ≡ false)
 or-none true b e = let q : _≡_ {A = ℕ} 0 1 = cc in absurd (omega arith)
 or-none false b e = (refl, e)
 
--- whether one of the words invokes: the next word, and two parts of them
-module _ (flag : ℕ) (m : List ℕ) where
-  pub some-more : (b : Bool) (from n i : ℕ) → i < n
-      → b || someInvoke flag m (from + i) (n - i)
-      ≡ b || invokes flag (high (getD m (from + i) 0)) || invokes flag (low (getD m (from + i) 0)) || someInvoke flag m (from + (i + 1)) (n - (i + 1))
-  unfolding someInvoke
-  some-more b from n i h =
-      let left : n - i ≡ suc (n - (i + 1)) = omega arith in
-      let place : suc (from + i) ≡ from + (i + 1) = omega arith in
-      let first = invokes flag (high (getD m (from + i) 0)) in
-      let second = invokes flag (low (getD m (from + i) 0)) in
-      ap (λ (k : ℕ). b || someInvoke flag m (from + i) k) left
-      ∙ or-join b first second (someInvoke flag m (suc (from + i)) (n - (i + 1)))
-      ∙ ap (λ (k : ℕ). b || first || second || someInvoke flag m k (n - (i + 1))) place
-
-  pub some-begun : (from n : ℕ) → someInvoke flag m from n ≡ false || someInvoke flag m (from + 0) (n - 0)
-  some-begun from n =
-      let left : n ≡ n - 0 = omega arith in
-      ap (λ (k : ℕ). someInvoke flag m k n) (sym (add-zero from)) ∙ ap (λ (k : ℕ). someInvoke flag m (from + 0) k) left
-
-  pub some-done : (b : Bool) (from n i : ℕ) → n ≤ i → b || someInvoke flag m (from + i) (n - i) ≡ b
-  unfolding someInvoke
-  some-done b from n i h =
-      let left : n - i ≡ 0 = omega arith in
-      ap (λ (k : ℕ). b || someInvoke flag m (from + i) k) left ∙ or-false b
-
-  some-append : (from j k : ℕ) → someInvoke flag m from (j + k) ≡ someInvoke flag m from j || someInvoke flag m (from + j) k
-  unfolding someInvoke
-  some-append from zero k = ap (λ (n : ℕ). someInvoke flag m from n) (zero-add k) ∙ ap (λ (n : ℕ). someInvoke flag m n k) (sym (add-zero from))
-  some-append from (suc j) k =
-      let sum : suc j + k ≡ suc (j + k) = omega arith in
-      let place : suc from + j ≡ from + suc j = omega arith in
-      let here = invokes flag (high (getD m from 0)) || invokes flag (low (getD m from 0)) in
-      ap (λ (n : ℕ). someInvoke flag m from n) sum
-      ∙ ap (λ (b : Bool). here || b) (some-append (suc from) j k)
-      ∙ sym (or-assoc here (someInvoke flag m (suc from) j) (someInvoke flag m (suc from + j) k))
-      ∙ ap (λ (n : ℕ). here || someInvoke flag m (suc from) j || someInvoke flag m n k) place
-
-  pub some-none : (from j k : ℕ) → someInvoke flag m from j ≡ false → someInvoke flag m (from + j) k ≡ false → someInvoke flag m from (j + k) ≡ false
-  some-none from j k e f = some-append from j k ∙ ap₂ (_||_) e f
-
--- k words without such a code: i is the number of the first
+-- k words without a code that invokes: i is the number of the first
 module _ (σ : CodeSettings) (m : List ℕ) (next : Pointer) where
   plain-pair : (a w : ℕ) → invokes (σ .flag) (high w) ≡ false → invokes (σ .flag) (low w) ≡ false
       → (pair σ a (listFrom next) w ≡ a ∷ []) × (pairAfter σ (listFrom next) w ≡ listFrom next)

@@ -1,21 +1,28 @@
 -- Addresses at places of a list: one more, those of one part and then of the next, and words one after the other.
 use mathlib.Core.Path.{_≡_, refl, ap, sym, _∙_}
 use mathlib.Core.List.{List, [], _∷_, _++_, append-nil}
-use mathlib.Core.Bool.{Bool, true, false}
-use Prim.Native.Nat.{ℕ, zero, suc, _+_, _-_, _<_, _≤_, zero-le}
+use mathlib.Core.Bool.{Bool, true, false, _&&_}
+use Prim.Native.Nat.{ℕ, zero, suc, _+_, _-_, _*_, _%_, _<_, _≤_, zero-le}
 use native.Mathlib.Omega.{arith}
 use native.Mathlib.Nat.{add-zero, zero-add}
 use native.Mathlib.Numerals.{add-one}
 use lib.ListN.{length, take, drop, set, length-append}
 use lib.Seq.{sets, sets-eq}
 use borrow.Author.Tests.{eq-eqb, ne-eqb}
+use Rattle.memory.specs.Word.{bit}
 use Rattle.memory.specs.declared.Pointer.{Pointer}
 use Rattle.memory.specs.Address.{null, nextWord, ahead}
 use Rattle.memory.proofs.ReadBounds.{if-cases}
 use Rattle.memory.proofs.RunLaws.{ahead-more}
+use Rattle.state.specs.declared.Fields.{Fields}
+use Rattle.layout.specs.declared.OverlayHead.{OverlayHead}
+use Rattle.layout.specs.declared.OverlayHead.the-variants.{NoOverlay, Over}
+use Rattle.layout.specs.Layout.{Overlay}
+use Rattle.layout.specs.Answers.{overlayOf}
 use Rattle.codes.specs.declared.AttributeList.{AttributeList}
 use Rattle.addresses.specs.declared.Written.{Written}
-use Rattle.addresses.specs.Addresses.{writtenTo, inTurn, pointed}
+use Rattle.noting.specs.Noting.{inTurn}
+use Rattle.addresses.specs.Addresses.{writtenTo, pointed, headWord, blockWords, redefinitionOf, dueOf, overRows, planAddresses, blockAddresses}
 
 -- those of one part, and then of the next
 pub sets-append : (l : List ℕ) (i : ℕ) (xs ys : List ℕ) → sets l i (xs ++ ys) ≡ sets (sets l i xs) (i + length xs) ys
@@ -62,6 +69,39 @@ pub pointed-short : (linear : Bool) (n : ℕ) (p : Pointer) → length (pointed 
 unfolding pointed
 pointed-short linear n p =
     if-cases (λ (l : List ℕ). length l ≤ n) (null p) (λ _. zero-le) (λ _. omega (arith, length-turn linear n (p .address)))
+
+-- the blocks of a row, whatever the words of its window's segments are; and how many words they have at most
+pub blocks-same : (linear : Bool) (m : List ℕ) (f : Fields) (o : OverlayHead) (ws vs : List ℕ)
+    → blockAddresses linear m f (overlayOf linear o ws) ≡ blockAddresses linear m f (overlayOf linear o vs)
+unfolding blockAddresses overRows
+blocks-same linear m f NoOverlay ws vs = refl
+blocks-same linear m f (Over number first end count) ws vs = refl
+
+pub blocks-short : (linear : Bool) (m : List ℕ) (f : Fields) (o : Overlay) → length (blockAddresses linear m f o) ≤ 167
+unfolding blockAddresses planAddresses
+blocks-short linear m f o =
+    let rows = overRows linear m (f .row) (f .window) o in
+    let x = pointed linear 6 (dueOf (f .row) (f .window)) in
+    let n = blockWords true (headWord linear m (f .next)) in
+    let y = pointed linear n (f .next) in
+    let z = pointed linear 3 (redefinitionOf linear m (f .next)) in
+    let k = blockWords false (headWord linear m rows) in
+    let u = pointed linear k rows in
+    omega (
+      arith,
+      length-append x (y ++ (z ++ u)),
+      length-append y (z ++ u),
+      length-append z u,
+      pointed-short linear 6 (dueOf (f .row) (f .window)),
+      pointed-short linear n (f .next),
+      pointed-short linear 3 (redefinitionOf linear m (f .next)),
+      pointed-short linear k rows,
+      words-most true (headWord linear m (f .next)),
+      words-most false (headWord linear m rows),
+    )
+  where
+    words-most : (b : Bool) (w : ℕ) → blockWords b w ≤ 80
+    words-most b w = if-cases (λ (k : ℕ). 3 + k + 5 * (w % 16) ≤ 80) (b && bit 15 w) (λ _. omega arith) (λ _. omega arith)
 
 -- where writing stands, after one address more, and after those of two parts
 pub written-cons : (at x : ℕ) (xs : List ℕ) (l : AttributeList) → writtenTo (at + 1) xs l ≡ writtenTo at (x ∷ xs) l

@@ -7,7 +7,7 @@ use lib.ListN.{length, getD}
 use lib.Dec.{ltb, eqb}
 use Rattle.memory.specs.Word.{if_then_else_, bit, high, low}
 use Rattle.memory.specs.declared.Pointer.{Pointer}
-use Rattle.memory.specs.Address.{nothing, pointer, null, nextWord, ahead, onward}
+use Rattle.memory.specs.Address.{nothing, pointer, null, ahead, onward}
 use Rattle.settings.specs.declared.Settings.{Settings}
 use Rattle.windows.specs.declared.WindowInHand.{WindowInHand}
 use Rattle.windows.specs.declared.WindowInHand.the-variants.{Absent, Present}
@@ -20,6 +20,7 @@ use Rattle.codes.specs.declared.CodeSettings.{CodeSettings}
 use Rattle.codes.specs.declared.AttributeList.{AttributeList}
 use Rattle.codes.specs.Attribute.{invokes, sourceOf}
 use Rattle.codes.specs.Codes.{listAt, noList}
+use Rattle.noting.specs.Noting.{inTurn}
 use Rattle.cells.specs.Cells.{codeCount}
 use Rattle.start.specs.Top.{registered}
 use Rattle.addresses.specs.declared.Written.{Written}
@@ -31,11 +32,6 @@ writtenTo at addresses l = record { at = at + length addresses; list = l }
 -- the word at an address; 0 where there is none
 abbrev pub wordIn : List ℕ → ℕ → ℕ
 wordIn m a = getD m (a / 2) 0
-
--- n addresses, one after the other
-unfoldable pub inTurn : Bool → ℕ → ℕ → List ℕ
-inTurn linear zero a = []
-inTurn linear (suc n) a = a ∷ inTurn linear n (nextWord linear a)
 
 -- ---- blocks ----
 
@@ -187,7 +183,8 @@ module _ (σ : CodeSettings) (m : List ℕ) (fill : FillMode) (cs : List ℕ) wh
       ++ (runAddresses first ws end noList ++ runAddresses end after 132 (runList 0 before first noList))
 
 -- a row: its blocks, then its cells
+unfoldable pub blockAddresses : Bool → List ℕ → Fields → Overlay → List ℕ
+blockAddresses linear m f o = planAddresses linear m (dueOf (f .row) (f .window)) (f .next) (overRows linear m (f .row) (f .window) o)
+
 unfoldable pub rowAddresses : CodeSettings → List ℕ → Fields → Overlay → List Segment → List ℕ → List ℕ
-rowAddresses σ m f o gs cs =
-    planAddresses (σ .linear) m (dueOf (f .row) (f .window)) (f .next) (overRows (σ .linear) m (f .row) (f .window) o)
-    ++ cellAddresses σ m (f .fill) cs o gs
+rowAddresses σ m f o gs cs = blockAddresses (σ .linear) m f o ++ cellAddresses σ m (f .fill) cs o gs

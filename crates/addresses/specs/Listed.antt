@@ -1,14 +1,11 @@
 -- The codes of a segment with a list, some of which are left to write: what the functions over them leave, no rules of their own.
-use Prim.Native.Nat.{ℕ, zero, suc, _+_, _-_, _*_}
-use mathlib.Core.Bool.{Bool, true, false, _||_}
+use Prim.Native.Nat.{ℕ, _+_, _-_, _*_}
+use mathlib.Core.Bool.{Bool, true}
 use mathlib.Core.List.{List}
-use lib.ListN.{getD}
-use Rattle.memory.specs.Word.{if_then_else_, high, low}
 use Rattle.memory.specs.declared.Pointer.{Pointer}
 use Rattle.memory.specs.Address.{further}
 use Rattle.codes.specs.declared.CodeSettings.{CodeSettings}
 use Rattle.codes.specs.declared.AttributeList.{AttributeList}
-use Rattle.codes.specs.Attribute.{invokes}
 use Rattle.addresses.specs.declared.Written.{Written}
 use Rattle.addresses.specs.declared.of_listed.Rest.{Rest}
 use Rattle.addresses.specs.Addresses.{writtenTo, codeAddresses, codeList}
@@ -28,19 +25,3 @@ module _ (σ : CodeSettings) (m : List ℕ) where
 -- what is left past k words none of whose codes invokes
 abbrev pub past : Bool → ℕ → Rest → Rest
 past linear k r = record { left = r .left - 2 * k; here = further linear k (r .here); next = r .next; at = r .at + k }
-
--- .. and once t words of the list are written
-abbrev pub taking : Bool → ℕ → Rest → Rest
-taking linear t r = record { left = r .left; here = r .here; next = further linear t (r .next); at = r .at + t }
-
--- how many codes of a word invoke
-abbrev pub oneIf : Bool → ℕ
-oneIf b = if b then 1 else 0
-
-abbrev pub invoking : (flag w : ℕ) → ℕ
-invoking flag w = oneIf (invokes flag (high w)) + oneIf (invokes flag (low w))
-
--- whether a code of n words invokes, from word number k of memory on
-unfoldable pub someInvoke : ℕ → List ℕ → ℕ → ℕ → Bool
-someInvoke flag m k zero = false
-someInvoke flag m k (suc n) = invokes flag (high (getD m k 0)) || invokes flag (low (getD m k 0)) || someInvoke flag m (suc k) n

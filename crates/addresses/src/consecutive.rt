@@ -5,7 +5,8 @@ ghost use mathlib.Core.Path.{_≡_};
 ghost use Prim.Native.Nat.{_+_, _≤_};
 ghost use lib.ListN.{length};
 ghost use lib.Seq.{sets};
-ghost use Rattle.addresses.specs.Addresses.{wordIn, inTurn, pointed};
+ghost use Rattle.noting.specs.Noting.{inTurn};
+ghost use Rattle.addresses.specs.Addresses.{wordIn, pointed};
 
 // The word at an address; 0 where there is none.
 pub(crate) fn word_in(mem: &[u16], a: u32) -> u16

@@ -45,11 +45,11 @@ module _ (n : ℕ) (m : List ℕ) (l hidden : Bool) (side : Side) (count : Segme
   abbrev after : List Segment
   after = segmentsOn side hidden (at + width hidden turn) (segmentsPast l count ws (i + 1))
 
-  more : i < count .number → here ≡ (if onSide side at (width hidden turn) then turn ∷ after else after)
+  pub more : i < count .number → here ≡ (if onSide side at (width hidden turn) then turn ∷ after else after)
   unfolding segmentsOn
   more h = ap (segmentsOn side hidden at) (segments-more l count ws i h)
 
-  none : count .number ≤ i → here ≡ []
+  pub none : count .number ≤ i → here ≡ []
   unfolding segmentsOn
   none h = ap (segmentsOn side hidden at) (segments-none l count ws i h)
 
@@ -64,7 +64,7 @@ module _ (n : ℕ) (m : List ℕ) (l hidden : Bool) (side : Side) (count : Segme
     abbrev drawn : Reading B
     drawn = if onSide side at (width hidden turn) then f turn d else done d
 
-    eachOf : i < count .number → each f here d ≡ drawn >>= each f after
+    pub eachOf : i < count .number → each f here d ≡ drawn >>= each f after
     eachOf h = ap (λ (gs : List Segment). each f gs d) (more h) ∙ each-chosen f turn after d (onSide side at (width hidden turn))
 
     pub side-given : {k : ℕ} {e : B} → i < count .number → runFrom n m drawn ≡ given k e → runFrom n m (each f here d) ≡ runFrom k m (each f after e)

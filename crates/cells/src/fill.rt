@@ -87,7 +87,7 @@ fn fill_by_word(
 }
 
 // Fill cells from the pen's column up to the column `end`.
-fn fill_run(fill: FillMode, end: usize, pen: Pen, cells: &mut [u32]) -> Pen
+pub fn fill_run(fill: FillMode, end: usize, pen: Pen, cells: &mut [u32]) -> Pen
     requires { ⌜ (end ≤ length (now cells)) × (pen .column ≤ end) ⌝ }
     ensures { λ r. ⌜ r .column ≡ end ⌝ }
     ensures { λ r. ⌜ soFar r (now (cells .exit)) ≡ filled fill end (soFar pen (now (cells .entry))) ⌝ }

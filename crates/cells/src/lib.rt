@@ -24,7 +24,7 @@ ghost use Rattle.cells.specs.Cells.{codeCount, segment, segmentsTo, rowC
 ghost use Rattle.codes.specs.Answers.{soFar, drawn};
 ghost use Rattle.cells.specs.Answers.{finish, finished, Reached, Drawable};
 
-mod fill; // fill runs
+pub mod fill; // fill runs
 
 // What the cells of a row came to: the latch, whether a word of this row became it, and the words read; or the refusal met.
 pub enum CellsDrawn {

@@ -1,5 +1,6 @@
 -- What the functions of this crate leave in a list, as what the rules give: no rules of their own.
 use Prim.Native.Nat.{ℕ}
+use mathlib.Core.Bool.{Bool, true, false}
 use mathlib.Core.List.{List}
 use lib.Seq.{sets}
 use Rattle.start.specs.declared.StartAnswer.{StartAnswer}
@@ -15,3 +16,7 @@ startPlaced (Start.Refused r) addresses list = list
 abbrev pub placed : RowAnswer → (at : ℕ) → (addresses list : List ℕ) → List ℕ
 placed (Row.Accepted r) at addresses list = sets list at addresses
 placed (Row.Refused r) at addresses list = list
+
+abbrev pub isAccepted : RowAnswer → Bool
+isAccepted (Row.Accepted r) = true
+isAccepted (Row.Refused r) = false

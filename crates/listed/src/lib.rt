@@ -15,6 +15,8 @@ ghost use Rattle.row.specs.Row.{row, called, answered, FewWords};
 ghost use Rattle.listed.specs.Listed.{startWith, startListed, rowWith, rowListed};
 ghost use Rattle.listed.specs.Answers.{placed};
 
+mod drawing; // a planned row, sure or not
+
 // The start of a frame, its addresses in `list`; or refusal 25, or that of the start, which leave the list as it was.
 pub fn start(settings: Settings, mem: &[u16], latch: u16, list: &mut [u32]) -> StartAnswer
     ensures { λ r. ⌜ startWith r (now (list .exit)) ≡ startListed latch settings (now (mem .entry)) (now (list .entry)) ⌝ }
@@ -85,7 +87,8 @@ pub fn row_at(
     }
 }
 
-// A planned row: drawn, and its addresses written once it is accepted.
+// A planned row: drawn, with the addresses of its cells' words where it is sure. Once it is accepted those of its blocks are written, and
+// those of its cells where it is not sure.
 fn planned_at(
     settings: Settings,
     mem: &[u16],
@@ -103,13 +106,26 @@ fn planned_at(
     ensures { λ r. ⌜ called r (now (buffer .exit)) ≡ answered settings (state .fields) (now (buffer .entry)) (run (now (mem .entry)) (row settings state)) ⌝ }
     ensures { λ r. ⌜ now (list .exit) ≡ placed r at (asked (now (mem .entry)) (row settings state)) (now (list .entry)) ⌝ }
 {
-    match row::draw_planned(settings, mem, state, p, back, window, buffer) {
+    let fields = state.fields;
+    let fill = fields.fill;
+    let overlay = p.overlay;
+    let count = p.count;
+    let code = row::code_settings(settings);
+    let certain = sure::known::is_sure(mem, code, fill, overlay, back, count, window);
+    match drawing::draw(
+        certain,
+        settings,
+        mem,
+        state,
+        p,
+        back,
+        window,
+        buffer,
+        at as u32,
+        list,
+    ) {
         RowAnswer::Refused(refusal) => RowAnswer::Refused(refusal),
         RowAnswer::Accepted(drawn) => {
-            let fields = state.fields;
-            let overlay = p.overlay;
-            let count = p.count;
-            let code = row::code_settings(settings);
             addresses::put_row(
                 mem,
                 code,
@@ -119,6 +135,7 @@ fn planned_at(
                 count,
                 window,
                 buffer,
+                certain,
                 at,
                 list,
             );

@@ -111,7 +111,7 @@ pub fn draw_planned(
 }
 
 // The answer of an accepted row.
-fn row_answer(number: u32, p: PlanHead, latch: u16, read: u32) -> RowAnswer
+pub fn row_answer(number: u32, p: PlanHead, latch: u16, read: u32) -> RowAnswer
     ensures { λ r. ⌜ r ≡ answerOf number (p .lines) (p .format) read (stateOf latch (p .next)) ⌝ }
 {
     let format = p.format;
@@ -127,7 +127,7 @@ fn row_answer(number: u32, p: PlanHead, latch: u16, read: u32) -> RowAnswer
 }
 
 // Bit 22 of the cell at the absolute cursor, when it is enabled and on this row.
-fn mark_cursor(settings: Settings, fields: Fields, cells: &mut [u32])
+pub fn mark_cursor(settings: Settings, fields: Fields, cells: &mut [u32])
     requires { ⌜ length (now cells) ≡ 132 ⌝ }
     ensures { λ _. ⌜ now (cells .exit) ≡ withCursor settings fields (now (cells .entry)) ⌝ }
 {

@@ -12,8 +12,8 @@ ghost use Rattle.memory.specs.Reading.{runFrom};
 ghost use Rattle.codes.specs.Codes.{codes};
 ghost use Rattle.codes.specs.Answers.{soFar, drawn, Within};
 
-mod with_list; // the codes of a segment with a list
-mod without_list; // those of a segment without one
+pub mod with_list; // the codes of a segment with a list
+pub mod without_list; // those of a segment without one
 
 // The codes of a segment: two to a word, the high byte first. Where its words stand one after the other in memory, and those of its
 // list too, as many as there are codes, none is missing and no address wraps.

@@ -22,18 +22,18 @@ ghost use Rattle.codes.specs.Answers.{soFar, drawn, Within};
 ghost use Rattle.runs.specs.Runs.{codesIn, examined, inForce, cursorOf, withWord, penOf};
 
 // What an attribute makes of a character: its cell's bits but the code's, and the column that it stands before.
-struct InForce {
-    bits: u32,
-    limit: usize,
+pub struct InForce {
+    pub bits: u32,
+    pub limit: usize,
 }
 
 // Where drawing stands in a segment: the pen, with the count of words taken of the list, and what the latch makes of a character.
-struct Cursor {
-    column: usize,
-    latch: u16,
-    latched: bool,
-    taken: usize,
-    attribute: InForce,
+pub struct Cursor {
+    pub column: usize,
+    pub latch: u16,
+    pub latched: bool,
+    pub taken: usize,
+    pub attribute: InForce,
 }
 
 // The codes of a segment with a list, where its words and as many of the list as there are codes stand one after the other in memory.
@@ -120,7 +120,7 @@ fn examine_odd(
 }
 
 // One code, whose list's next word is there.
-fn examine_listed(
+pub fn examine_listed(
     mem: &[u16],
     settings: CodeSettings,
     room: Room,
@@ -179,7 +179,7 @@ fn with_word(w: u16, own: InForce, column: usize, cursor: Cursor) -> Cursor
 }
 
 // The cursor where a segment begins, no word of its list taken.
-fn cursor_of(hidden: bool, room: Room, pen: Pen) -> Cursor
+pub fn cursor_of(hidden: bool, room: Room, pen: Pen) -> Cursor
     ensures { λ r. ⌜ r ≡ cursorOf hidden (room .source) (room .end) pen ⌝ }
 {
     let attribute = in_force(hidden, room, pen.latch);
@@ -193,7 +193,7 @@ fn cursor_of(hidden: bool, room: Room, pen: Pen) -> Cursor
 }
 
 // The pen where a segment ends, whose list begins at `list`.
-fn pen_of(linear: bool, list: Pointer, cursor: Cursor) -> Pen
+pub fn pen_of(linear: bool, list: Pointer, cursor: Cursor) -> Pen
     requires { ⌜ cursor .taken ≤ 4000000000 ⌝ }
     ensures { λ r. ⌜ r ≡ penOf linear list cursor ⌝ }
 {

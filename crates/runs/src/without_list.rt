@@ -43,7 +43,7 @@ pub(crate) fn draw_without_list(
 }
 
 // The first `count` codes of the words from number `at` on, all with the latch.
-fn draw_characters(
+pub fn draw_characters(
     mem: &[u16],
     hidden: bool,
     room: Room,
@@ -96,7 +96,7 @@ fn draw_pairs(
     pens::moved_to(column + 2 * pairs, pen)
 }
 
-fn lesser(a: usize, b: usize) -> usize
+pub fn lesser(a: usize, b: usize) -> usize
     ensures { λ r. ⌜ r ≡ min a b ⌝ }
 {
     if a < b { a } else { b }

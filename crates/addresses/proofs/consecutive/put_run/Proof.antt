@@ -6,7 +6,7 @@ use native.Mathlib.Nat.{sub-zero, add-zero}
 use lib.ListN.{length, length-set}
 use lib.Seq.{sets, length-sets}
 use Rattle.memory.specs.Address.{ahead}
-use Rattle.addresses.specs.Addresses.{inTurn}
+use Rattle.noting.specs.Noting.{inTurn}
 use Rattle.addresses.proofs.PlaceLaws.{turn-more, turn-done}
 use borrow.Author.Needs.{needs}
 use Rattle.addresses.proofs.consecutive.put_run.Statement.{statement}

@@ -59,7 +59,7 @@ returns c =
     let run : isRun (σ .linear) (length m) (rest .here .address) (rest .left / 2) ≡ true = sym (t .before .is-run .ensures) ∙ both (leb 8 (s .args .rest .left / 2)) _ (t .if1 .taken) .1 in
     let k = p .plain-words .ensures in
     let fits : 2 * (rest .left / 2) ≤ rest .left = omega arith in (
-      (ap (leftWritten σ m) (c .past .ensures) ∙ past-written σ m rest (rest .left / 2) _ run (k .0) fits (k .1), omega (arith, ap (λ (r : Rest). r .left) (c .past .ensures))),
+      ap (leftWritten σ m) (c .past .ensures) ∙ past-written σ m rest (rest .left / 2) _ run (k .0) fits (k .1),
       ap₂ (λ (l : List ℕ) (r : Rest). sets l (r .at) (leftAddresses σ m r)) (c .before .before .before .put-run .ensures) (c .past .ensures)
           ∙ past-sets σ m rest (rest .left / 2) _ run (k .0) fits (k .1) (s .args .list .now),
     )
@@ -76,4 +76,4 @@ put-plain-spec =
     past-requires
     (λ c. search needs)
     returns
-    (λ c. ((refl, omega arith), refl)))
+    (λ c. (refl, refl)))

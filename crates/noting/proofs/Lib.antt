@@ -1,0 +1,4 @@
+pub mod NotingLaws
+pub mod PlaceLaws
+pub mod PlainLaws
+pub mod WordLaws
