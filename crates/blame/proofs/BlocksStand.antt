@@ -36,8 +36,10 @@ module _ (m : List ℕ) (b : Words m) (linear : Bool) where
   unfolding segmentsAt segmentOf ahead
   segments-stand zero a ws h e = tt
   segments-stand (suc n) a ws h e = (
-    (stands m b linear a _ _ h (e 0 (omega arith)) (e 1 (omega arith)),
-    stands m b linear (ahead linear 2 a) _ _ (ahead-address m b linear 2 a h) (e 2 (omega arith)) (e 3 (omega arith))),
+    (
+      stands m b linear a _ _ h (e 0 (omega arith)) (e 1 (omega arith)),
+      stands m b linear (ahead linear 2 a) _ _ (ahead-address m b linear 2 a h) (e 2 (omega arith)) (e 3 (omega arith)),
+    ),
     segments-stand n (ahead linear 5 a) (drop 5 ws) (ahead-address m b linear 5 a h) (later m b linear (5 * n) a ws λ i l. e i (omega arith)),
   )
 

@@ -20,17 +20,27 @@ segments-from-requires c κs = (search needs, rw (c .before .before .words-befor
 returns-2 : tie.Need-returns-2
 unfolding blockAt
 returns-2 c =
-    let r = c .before .before .before .before .before .before .before .before .before .before .before .before .before .before .read-words in
-    rw (ne-eqb _ 0 (c .before .before .before .before .before .before .before .before .before .before .before .before .before .before .before .before .if1 .left))
-    (c .before .before .segments-from .ensures
-    ∙ block-read _ _ (c .before .before .before .before .before .before .before .before .before .before .before .before .before .before .before .before .before .before .before .before .args .redefines) _ _ (read-whole _ _ 3 _ _ _ (r .ensures) (c .before .before .before .before .before .before .before .before .before .before .before .enum-told .given .1) (r .kept .1 .1 .1 .0)) _ (c .before .before .before .before .before .before .before .before .before .before .is-pointed .ensures) _ (c .before .before .before .before .before .before .before .before .before .redefinition-pointer .ensures) _ _ (c .before .before .before .before .before .before .before .redefinition .given .1) (c .before .before .before .before .before .words-before .ensures))
+    let at-segments-from = c .before .before in let at-words-before = at-segments-from .before .before .before in
+    let at-redefinition = at-words-before .before .before in
+    let at-redefinition-pointer = at-redefinition .before .before in
+    let at-is-pointed = at-redefinition-pointer .before in let at-enum-told = at-is-pointed .before in
+    let at-read-words = at-enum-told .before .before .before in let at-if1 = at-read-words .before .before in
+    let start = at-if1 .before .before .before .before in
+    let r = at-read-words .read-words in
+    rw (ne-eqb _ 0 (at-if1 .if1 .left))
+    (at-segments-from .segments-from .ensures
+    ∙ block-read _ _ (start .args .redefines) _ _ (read-whole _ _ 3 _ _ _ (r .ensures) (at-enum-told .enum-told .given .1) (r .kept .1 .1 .1 .0)) _ (at-is-pointed .is-pointed .ensures) _ (at-redefinition-pointer .redefinition-pointer .ensures) _ _ (at-redefinition .redefinition .given .1) (at-words-before .words-before .ensures))
 
 returns-3 : tie.Need-returns-3
 unfolding blockAt
 returns-3 c =
-    let r = c .before .before .before .before .before .before .before .before .read-words in
-    rw (ne-eqb _ 0 (c .before .before .before .before .before .before .before .before .before .before .if1 .left))
-    (block-refused _ _ (c .before .before .before .before .before .before .before .before .before .before .before .before .before .before .args .redefines) _ _ (read-whole _ _ 3 _ _ _ (r .ensures) (c .before .before .before .before .before .enum-told .given .1) (r .kept .1 .1 .1 .0)) _ (c .before .before .before .before .is-pointed .ensures) _ (c .before .before .before .redefinition-pointer .ensures) _ (c .before .fault .given .1))
+    let at-fault = c .before in let at-redefinition-pointer = at-fault .before .before in
+    let at-is-pointed = at-redefinition-pointer .before in let at-enum-told = at-is-pointed .before in
+    let at-read-words = at-enum-told .before .before .before in let at-if1 = at-read-words .before .before in
+    let start = at-if1 .before .before .before .before in
+    let r = at-read-words .read-words in
+    rw (ne-eqb _ 0 (at-if1 .if1 .left))
+    (block-refused _ _ (start .args .redefines) _ _ (read-whole _ _ 3 _ _ _ (r .ensures) (at-enum-told .enum-told .given .1) (r .kept .1 .1 .1 .0)) _ (at-is-pointed .is-pointed .ensures) _ (at-redefinition-pointer .redefinition-pointer .ensures) _ (at-fault .fault .given .1))
 
 returns-4 : tie.Need-returns-4
 unfolding blockAt
@@ -40,21 +50,6 @@ returns-4 c =
 
 pub block-at-spec : {M : Type 1} → statement M
 block-at-spec =
-    tie.close
-    (tie.spec
-    returns
-    (λ c. search needs)
-    (λ c κs. search needs)
-    (λ c. search needs)
-    (λ c. search needs)
-    (λ c κs. search needs)
-    (λ c κs. search needs)
-    (λ c. search needs)
-    (λ c κs. search needs)
-    segments-from-requires
-    (λ c. search needs)
-    (λ c. search needs)
-    (λ c. search needs)
-    returns-2
-    returns-3
-    returns-4)
+    tie.close (tie.spec returns (λ c. search needs) (λ c κs. search needs) (λ c. search needs) (λ c. search needs)
+    (λ c κs. search needs) (λ c κs. search needs) (λ c. search needs) (λ c κs. search needs) segments-from-requires
+    (λ c. search needs) (λ c. search needs) (λ c. search needs) returns-2 returns-3 returns-4)

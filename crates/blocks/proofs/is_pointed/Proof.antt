@@ -6,8 +6,4 @@ returns : tie.Need-returns
 returns c = rw (c .bit-15 .ensures)
 
 pub is-pointed-spec : {M : Type 1} → statement M
-is-pointed-spec =
-    tie.close
-    (tie.spec
-    (λ c κs. search needs)
-    returns)
+is-pointed-spec = tie.close (tie.spec (λ c κs. search needs) returns)

@@ -5,11 +5,7 @@ use Rattle.blocks.proofs.row_block.Tie as tie
 
 returns : tie.Need-returns
 unfolding rowBlockAt
-returns c = c .block-at .ensures
+returns c = search needs
 
 pub row-block-spec : {M : Type 1} → statement M
-row-block-spec =
-    tie.close
-    (tie.spec
-    (λ c κs. search needs)
-    returns)
+row-block-spec = tie.close (tie.spec (λ c κs. search needs) returns)

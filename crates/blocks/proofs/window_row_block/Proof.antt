@@ -5,11 +5,7 @@ use Rattle.blocks.proofs.window_row_block.Tie as tie
 
 returns : tie.Need-returns
 unfolding windowRowAt
-returns c = c .block-at .ensures
+returns c = search needs
 
 pub window-row-block-spec : {M : Type 1} → statement M
-window-row-block-spec =
-    tie.close
-    (tie.spec
-    (λ c κs. search needs)
-    returns)
+window-row-block-spec = tie.close (tie.spec (λ c κs. search needs) returns)

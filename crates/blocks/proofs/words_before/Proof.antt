@@ -1,4 +1,3 @@
-use borrow.Author.Needs.{needs}
 use Rattle.blocks.proofs.words_before.Statement.{statement}
 use Rattle.blocks.proofs.words_before.Tie as tie
 

@@ -7,6 +7,9 @@ use borrow.Author.Needs.{needs}
 use Rattle.conversion.proofs.convert.Statement.{statement}
 use Rattle.conversion.proofs.convert.Tie as tie
 
+abbrev to-else3 : tie.After-follow → tie.Else3
+to-else3 c = c .before .before .before .before .before .before .before
+
 returns : tie.Need-returns
 returns c = rw (c .refused .ensures) (other-number _ _ _ _ (c .before .if1 .taken))
 
@@ -17,52 +20,44 @@ returns-3 : tie.Need-returns-3
 returns-3 c = rw (c .refused3 .ensures) (is-linear _ _ _ _ (c .before .before .before .before .if1 .left) (sym (c .before .before .before .is-good .ensures) ∙ not-false _ (c .before .before .if2 .left)) (c .before .if3 .taken))
 
 follow-requires : tie.Need-follow-requires
-follow-requires c κs = (
-  rw (c .before .before .before .before .before .before .before .before .before .if1 .left) at (c .before .before .before .before .clear .ensures),
-  c .before .before .before .before .clear .kept .0 ∙ c .before .before .before .before .before .before .before .before .before .if1 .left,
-  sym (c .before .before .before .before .before .before .before .before .is-good .ensures) ∙ not-false _ (c .before .before .before .before .before .before .before .if2 .left),
-  c .before .before .before .before .before .before .if3 .left,
-)
+follow-requires c κs =
+    let at-clear = c .before .before .before .before in let at-if3 = at-clear .before .before in
+    let at-if2 = at-if3 .before in let at-is-good = at-if2 .before in let at-if1 = at-is-good .before in (
+      rw (at-if1 .if1 .left) at (at-clear .clear .ensures),
+      at-clear .clear .kept .0 ∙ at-if1 .if1 .left,
+      sym (at-is-good .is-good .ensures) ∙ not-false _ (at-if2 .if2 .left),
+      at-if3 .if3 .left,
+    )
 
 turn-requires : tie.Need-turn-requires
-turn-requires c κs = c .before .before .before .before .before .before .follow .kept .1 .1 .0 ∙ c .before .before .before .before .before .before .before .before .before .before .before .clear .kept .0 ∙ c .before .before .before .before .before .before .before .before .before .before .before .before .before .before .before .before .if1 .left
-
-add-t26 : tie.Need-add-t26
-add-t26 c = omega (arith, c .before .before .before .before .turn .ensures .2, c .register-changes .ensures .1, c .before .before .before .before .before .before .before .before .before .before .before .before .before .before .before .before .before .before .before .before .before .before .before .before .good .1 .0 .1)
+turn-requires c κs =
+    let at-follow = c .before .before .before .before .before .before in
+    let at-clear = at-follow .before .before .before .before .before in
+    let at-if1 = at-clear .before .before .before .before .before in
+    at-follow .follow .kept .1 .1 .0 ∙ at-clear .clear .kept .0 ∙ at-if1 .if1 .left
 
 returns-4 : tie.Need-returns-4
 returns-4 c =
-    was-stopped _ _ _ _ (c .before .before .before .before .before .before .before .before .before .before .before .before .before .before .before .if1 .left) (sym (c .before .before .before .before .before .before .before .before .before .before .before .before .before .before .is-good .ensures) ∙ not-false _ (c .before .before .before .before .before .before .before .before .before .before .before .before .before .if2 .left)) (c .before .before .before .before .before .before .before .before .before .before .before .before .if3 .left)
-    (rw (c .before .refusal .given .1) at (c .before .before .before .before .before .follow .ensures))
+    let at-refusal = c .before in let at-follow = at-refusal .before .before .before .before in
+    let at-if3 = to-else3 at-follow in let at-if2 = at-if3 .before in
+    let at-is-good = at-if2 .before in let at-if1 = at-is-good .before in
+    was-stopped _ _ _ _ (at-if1 .if1 .left) (sym (at-is-good .is-good .ensures) ∙ not-false _ (at-if2 .if2 .left)) (at-if3 .if3 .left)
+    (rw (at-refusal .refusal .given .1) at (at-follow .follow .ensures))
 
 returns-5 : tie.Need-returns-5
 returns-5 c =
-    rw (c .before .turned-settings .ensures, c .register-changes .ensures .0, c .before .before .before .before .turn .ensures .1, c .before .before .before .before .turn .ensures .0)
-    (was-ended _ _ _ _ (c .before .before .before .before .before .before .before .before .before .before .before .before .before .before .before .before .before .before .before .before .before .if1 .left) (sym (c .before .before .before .before .before .before .before .before .before .before .before .before .before .before .before .before .before .before .before .before .is-good .ensures) ∙ not-false _ (c .before .before .before .before .before .before .before .before .before .before .before .before .before .before .before .before .before .before .before .if2 .left)) (c .before .before .before .before .before .before .before .before .before .before .before .before .before .before .before .before .before .before .if3 .left)
-    (rw (c .before .before .before .before .before .before .before .enum-told .given .1) at (c .before .before .before .before .before .before .before .before .before .before .before .follow .ensures)))
+    let at-turned-settings = c .before in let at-turn = at-turned-settings .before .before .before in
+    let at-enum-told = at-turn .before .before .before in
+    let at-follow = at-enum-told .before .before .before .before in
+    let at-if3 = to-else3 at-follow in let at-if2 = at-if3 .before in
+    let at-is-good = at-if2 .before in let at-if1 = at-is-good .before in
+    rw (at-turned-settings .turned-settings .ensures, c .register-changes .ensures .0, at-turn .turn .ensures .1, at-turn .turn .ensures .0)
+    (was-ended _ _ _ _ (at-if1 .if1 .left) (sym (at-is-good .is-good .ensures) ∙ not-false _ (at-if2 .if2 .left)) (at-if3 .if3 .left)
+    (rw (at-enum-told .enum-told .given .1) at (at-follow .follow .ensures)))
 
 pub convert-spec : {M : Type 1} → statement M
 convert-spec =
-    tie.close
-    (tie.spec
-    (λ c κs. search needs)
-    returns
-    (λ c κs. search needs)
-    (λ c κs. search needs)
-    returns-2
-    (λ c κs. search needs)
-    returns-3
-    (λ c κs. search needs)
-    follow-requires
-    (λ c. search needs)
-    (λ c. search needs)
-    turn-requires
-    (λ c κs. search needs)
-    (λ c κs. search needs)
-    add-t26
-    (λ c. search needs)
-    (λ c. search needs)
-    returns-4
-    (λ c. search needs)
-    (λ c. search needs)
-    returns-5)
+    tie.close (tie.spec (λ c κs. search needs) returns (λ c κs. search needs) (λ c κs. search needs) returns-2
+    (λ c κs. search needs) returns-3 (λ c κs. search needs) follow-requires (λ c. search needs) (λ c. search needs)
+    turn-requires (λ c κs. search needs) (λ c κs. search needs) (λ c. omega (arith, c .before .before .before .before))
+    (λ c. search needs) (λ c. search needs) returns-4 (λ c. search needs) (λ c. search needs) returns-5)

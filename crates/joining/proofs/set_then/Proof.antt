@@ -13,11 +13,4 @@ returns-3 c = rw (c .before .p2 .given .1)
 
 pub set-then-spec : {M : Type 1} → statement M
 set-then-spec =
-    tie.close
-    (tie.spec
-    (λ c. search needs)
-    (λ c. search needs)
-    (λ c. search needs)
-    returns
-    returns-2
-    returns-3)
+    tie.close (tie.spec (λ c. search needs) (λ c. search needs) (λ c. search needs) returns returns-2 returns-3)

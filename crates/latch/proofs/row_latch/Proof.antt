@@ -19,20 +19,13 @@ returns-2 c =
 returns-3 : tie.Need-returns-3
 unfolding overRow overParts
 returns-3 c =
+    let at-side-latch3 = c .before in let at-side-latch2 = at-side-latch3 .before in
+    let at-overlay = at-side-latch2 .before .before in let at-if1 = at-overlay .before .before in
     row-ends _ _ _ _ _
-    (rw (c .before .before .before .before .before .before .if1 .left, c .before .before .before .before .overlay .given .1)
-    (c .side-latch4 .ensures ∙ rw (c .before .side-latch3 .ensures, c .before .before .side-latch2 .ensures, whole-all)))
+    (rw (at-if1 .if1 .left, at-overlay .overlay .given .1)
+    (c .side-latch4 .ensures ∙ rw (at-side-latch3 .side-latch3 .ensures, at-side-latch2 .side-latch2 .ensures, whole-all)))
 
 pub row-latch-spec : {M : Type 1} → statement M
 row-latch-spec =
-    tie.close
-    (tie.spec
-    returns
-    (λ c. search needs)
-    (λ c κs. search needs)
-    (λ c. search needs)
-    (λ c κs. search needs)
-    (λ c κs. search needs)
-    (λ c κs. search needs)
-    returns-2
-    returns-3)
+    tie.close (tie.spec returns (λ c. search needs) (λ c κs. search needs) (λ c. search needs) (λ c κs. search needs)
+    (λ c κs. search needs) (λ c κs. search needs) returns-2 returns-3)

@@ -16,8 +16,4 @@ returns-2 c =
     ends-past (leb (a .first) (a .s)) (a .s) (a .w) (a .end) (c .if1 .left)
 
 pub is-covered-spec : {M : Type 1} → statement M
-is-covered-spec =
-    tie.close
-    (tie.spec
-    returns
-    returns-2)
+is-covered-spec = tie.close (tie.spec returns returns-2)

@@ -5,7 +5,7 @@ use Rattle.layout.proofs.on_side.Tie as tie
 
 returns : tie.Need-returns
 unfolding onSide
-returns c = rw (c .enum-told .given .1)
+returns c = search needs
 
 returns-2 : tie.Need-returns-2
 unfolding onSide
@@ -17,12 +17,5 @@ returns-3 c = rw (c .before .before .side2 .given .1, c .is-covered .ensures)
 
 pub on-side-spec : {M : Type 1} → statement M
 on-side-spec =
-    tie.close
-    (tie.spec
-    (λ c. search needs)
-    (λ c. search needs)
-    (λ c. search needs)
-    (λ c κs. search needs)
-    returns
-    returns-2
-    returns-3)
+    tie.close (tie.spec (λ c. search needs) (λ c. search needs) (λ c. search needs) (λ c κs. search needs) returns
+    returns-2 returns-3)

@@ -12,10 +12,4 @@ unfolding width
 returns-2 c = rw (c .before .if1 .left)
 
 pub width-spec : {M : Type 1} → statement M
-width-spec =
-    tie.close
-    (tie.spec
-    (λ c. search needs)
-    (λ c. search needs)
-    returns
-    returns-2)
+width-spec = tie.close (tie.spec (λ c. search needs) (λ c. search needs) returns returns-2)

@@ -8,10 +8,4 @@ unfolding nextFields
 returns c = rw (c .before .lines-taken .ensures)
 
 pub next-fields-spec : {M : Type 1} → statement M
-next-fields-spec =
-    tie.close
-    (tie.spec
-    (λ c. search needs)
-    (λ c κs. search needs)
-    (λ c. search needs)
-    returns)
+next-fields-spec = tie.close (tie.spec (λ c. search needs) (λ c κs. search needs) (λ c. search needs) returns)

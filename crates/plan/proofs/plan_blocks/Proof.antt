@@ -9,7 +9,7 @@ use Rattle.plan.proofs.plan_blocks.Statement.{statement}
 use Rattle.plan.proofs.plan_blocks.Tie as tie
 
 due-window-requires : tie.Need-due-window-requires
-due-window-requires c κs = numbered (c .before .args .fields) (c .before .pre .0)
+due-window-requires c κs = numbered _ (c .before .pre .0)
 
 next-fields-requires : tie.Need-next-fields-requires
 next-fields-requires c κs = c .before .before .before .before .before .before .before .before .before .before .before .before .before .before .before .before .before .before .before .before .pre .1
@@ -29,22 +29,19 @@ few-words c =
     let a = z .before .before .before .before in
     plan-words _ (a .args .settings) (a .args .fields) w g o (λ i. z .before .before .before .shared-slice-known .given i .fits) (a .pre .0)
 
-add-t32 : tie.Need-add-t32
-add-t32 c = omega (arith, few-words c)
-
-add-t33 : tie.Need-add-t33
-add-t33 c = omega (arith, few-words c)
-
 returns : tie.Need-returns
 returns c =
-    let x = c .before .before .before .before .before .before .before .before .before in
+    let at-lines-taken = c .before in let at-next-fields = at-lines-taken .before in
+    let at-if1 = at-next-fields .before .before in let at-edges-fit = at-if1 .before in
+    let back = at-edges-fit .before .before .before .before in
+    let x = back in
     let y = x .before .before .before .before .before in
     let z = y .before .before .before .before .before in
     let o = sym (rw (x .overlay .given .1) at (x .before .before .overlay-row .ensures)) in
     let g = sym (rw (y .block .given .1) at (y .before .before .background-row .ensures)) in
     let w = sym (rw (z .window .given .1) at (z .before .before .due-window .ensures)) in
-    rw (c .before .lines-taken .ensures, c .before .before .next-fields .ensures)
-    (sym (edges-on _ _ _ w g o (sym (c .before .before .before .before .before .edges-fit .ensures _) ∙ c .before .before .before .before .if1 .taken)))
+    rw (at-lines-taken .lines-taken .ensures, at-next-fields .next-fields .ensures)
+    (sym (edges-on _ _ _ w g o (sym (at-edges-fit .edges-fit .ensures _) ∙ at-if1 .if1 .taken)))
 
 returns-2 : tie.Need-returns-2
 returns-2 c =
@@ -75,25 +72,7 @@ returns-5 c = sym (window-refused _ _ _ (sym (rw (c .before .fault3 .given .1) a
 
 pub plan-blocks-spec : {M : Type 1} → statement M
 plan-blocks-spec =
-    tie.close
-    (tie.spec
-    due-window-requires
-    (λ c. search needs)
-    (λ c κs. search needs)
-    (λ c. search needs)
-    (λ c κs. search needs)
-    (λ c. search needs)
-    (λ c κs. search needs)
-    next-fields-requires
-    (λ c κs. search needs)
-    add-t32
-    add-t33
-    (λ c κs. search needs)
-    (λ c. search needs)
-    (λ c. search needs)
-    (λ c. search needs)
-    returns
-    returns-2
-    returns-3
-    returns-4
-    returns-5)
+    tie.close (tie.spec due-window-requires (λ c. search needs) (λ c κs. search needs) (λ c. search needs)
+    (λ c κs. search needs) (λ c. search needs) (λ c κs. search needs) next-fields-requires (λ c κs. search needs)
+    (λ c. omega (arith, few-words c)) (λ c. omega (arith, few-words c)) (λ c κs. search needs) (λ c. search needs)
+    (λ c. search needs) (λ c. search needs) returns returns-2 returns-3 returns-4 returns-5)

@@ -6,17 +6,9 @@ use Rattle.shifts.proofs.write_beside.Tie as tie
 
 returns : tie.Need-returns
 unfolding besideNumbers
-returns c = c .before .before .write .ensures
+returns c = search needs
 
 pub write-beside-spec : {M : Type 1} → statement M
 write-beside-spec =
-    tie.close
-    (tie.spec
-    (λ c. search needs)
-    (λ c. search needs)
-    (λ c. search needs)
-    (λ c. search needs)
-    (λ c. search needs)
-    (λ c κs. search needs)
-    (λ c. search needs)
-    returns)
+    tie.close (tie.spec (λ c. search needs) (λ c. search needs) (λ c. search needs) (λ c. search needs)
+    (λ c. search needs) (λ c κs. search needs) (λ c. search needs) returns)

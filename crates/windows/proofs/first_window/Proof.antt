@@ -6,11 +6,7 @@ use Rattle.windows.proofs.first_window.Tie as tie
 
 returns : tie.Need-returns
 unfolding firstWindow
-returns c = c .window-at .ensures
+returns c = search needs
 
 pub first-window-spec : {M : Type 1} → statement M
-first-window-spec =
-    tie.close
-    (tie.spec
-    (λ c κs. omega arith)
-    returns)
+first-window-spec = tie.close (tie.spec (λ c κs. omega arith) returns)

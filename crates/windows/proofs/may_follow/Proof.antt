@@ -6,9 +6,4 @@ returns : tie.Need-returns
 returns c = rw (c .before .in-order .ensures)
 
 pub may-follow-spec : {M : Type 1} → statement M
-may-follow-spec =
-    tie.close
-    (tie.spec
-    (λ c κs. search needs)
-    (λ c. search needs)
-    returns)
+may-follow-spec = tie.close (tie.spec (λ c κs. search needs) (λ c. search needs) returns)

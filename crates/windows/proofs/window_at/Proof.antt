@@ -30,7 +30,7 @@ unfolding windowAt
 returns-2 c =
     let r = c .before .before .before .before .before .before .before .before .before .read-words in
     let t = sym (c .before .may-follow .ensures) ∙ c .if2 .taken in
-    let number = byte _ _ (c .before .before .before .window-of .result .block) (c .before .before .before .before .before .before .before .before .before .before .before .before .before .before .pre) t (omega (arith, c .before .before .before .window-of .ok)) in
+    let number = byte _ _ (c .before .before .before .window-of .result .block) (c .before .before .before .before .before .before .before .before .before .before .before .before .before .before .pre) t (omega arith) in
     rw (ne-eqb _ 0 (c .before .before .before .before .before .before .before .before .before .before .before .if1 .left), c .before .before .before .window-of .ensures, c .before .before .before .before .before .low-byte .ensures, number)
     (sym (step-given 0 _ _ _ (run-as _ _ _ _ ∙ read-whole _ _ 6 _ _ _ (r .ensures) (c .before .before .before .before .before .before .enum-told .given .1) (r .kept .1 .1 .1 .0))
     ∙ check-of-passed _ _ _ _ _ _ (rw (c .before .before .before .window-of .ensures, c .before .before .before .before .before .low-byte .ensures, number) at t) ∙ run-done _ _ _))
@@ -38,10 +38,13 @@ returns-2 c =
 returns-3 : tie.Need-returns-3
 unfolding windowAt windowOf
 returns-3 c =
-    let r = c .before .before .before .before .before .before .before .before .before .before .read-words in
-    rw (c .blame .ensures, ne-eqb _ 0 (c .before .before .before .before .before .before .before .before .before .before .before .before .if1 .left))
-    (sym (step-given 0 _ _ _ (run-as _ _ _ _ ∙ read-whole _ _ 6 _ _ _ (r .ensures) (c .before .before .before .before .before .before .before .enum-told .given .1) (r .kept .1 .1 .1 .0))
-    ∙ check-of-failed _ _ _ _ _ _ (sym (rw (c .before .before .before .before .window-of .ensures) at (c .before .before .may-follow .ensures)) ∙ c .before .if2 .left)))
+    let at-if2 = c .before in let at-may-follow = at-if2 .before in let at-window-of = at-may-follow .before .before in
+    let at-enum-told = at-window-of .before .before .before in
+    let at-read-words = at-enum-told .before .before .before in let at-if1 = at-read-words .before .before in
+    let r = at-read-words .read-words in
+    rw (c .blame .ensures, ne-eqb _ 0 (at-if1 .if1 .left))
+    (sym (step-given 0 _ _ _ (run-as _ _ _ _ ∙ read-whole _ _ 6 _ _ _ (r .ensures) (at-enum-told .enum-told .given .1) (r .kept .1 .1 .1 .0))
+    ∙ check-of-failed _ _ _ _ _ _ (sym (rw (at-window-of .window-of .ensures) at (at-may-follow .may-follow .ensures)) ∙ at-if2 .if2 .left)))
 
 returns-4 : tie.Need-returns-4
 unfolding windowAt
@@ -51,17 +54,6 @@ returns-4 c =
 
 pub window-at-spec : {M : Type 1} → statement M
 window-at-spec =
-    tie.close
-    (tie.spec
-    returns
-    (λ c. search needs)
-    (λ c κs. search needs)
-    (λ c. search needs)
-    (λ c κs. search needs)
-    (λ c κs. search needs)
-    (λ c κs. search needs)
-    (λ c κs. search needs)
-    (λ c. search needs)
-    returns-2
-    returns-3
+    tie.close (tie.spec returns (λ c. search needs) (λ c κs. search needs) (λ c. search needs) (λ c κs. search needs)
+    (λ c κs. search needs) (λ c κs. search needs) (λ c κs. search needs) (λ c. search needs) returns-2 returns-3
     returns-4)

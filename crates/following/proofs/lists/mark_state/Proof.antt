@@ -17,15 +17,8 @@ mark-blocks-requires : tie.Need-mark-blocks-requires
 mark-blocks-requires c κs = (c .before .before .before .before .before .before .before .pre, sym (c .before .before .before .before .in-range .ensures) ∙ not-false _ (c .before .before .before .if1 .left))
 
 returns-3 : tie.Need-returns-3
-returns-3 c = c .before .before .mark-blocks .ensures ∙ sym (state-in _ _ _ _ _ (sym (c .before .before .before .before .before .before .before .in-range .ensures) ∙ not-false _ (c .before .before .before .before .before .before .if1 .left)) (omega (arith, c .before .before .before .before .if2 .left)))
+returns-3 c = c .before .before .mark-blocks .ensures ∙ sym (state-in _ _ _ _ _ (sym (c .before .before .before .before .before .before .before .in-range .ensures) ∙ not-false _ (c .before .before .before .before .before .before .if1 .left)) (omega arith))
 
 pub mark-state-spec : {M : Type 1} → statement M
 mark-state-spec =
-    tie.close
-    (tie.spec
-    (λ c κs. search needs)
-    returns
-    returns-2
-    mark-blocks-requires
-    (λ c. search needs)
-    returns-3)
+    tie.close (tie.spec (λ c κs. search needs) returns returns-2 mark-blocks-requires (λ c. search needs) returns-3)

@@ -22,45 +22,32 @@ returns : tie.Need-returns Inv-loop μ-loop
 returns c = rows-ended _ _ _ _ _ (c .before .before .loop-test .taken) (c .if1 .taken) ∙ c .before .before .before .loop .inv .1
 
 walk-row-requires : tie.Need-walk-row-requires Inv-loop μ-loop
-walk-row-requires c κs = (c .before .before .before .before .loop .inv .0 ∙ c .before .before .before .before .before .before .before .pre .0, c .before .before .before .before .before .before .before .pre .1)
+walk-row-requires c κs =
+    let at-loop = c .before .before .before .before in let start = at-loop .before .before .before in
+    (at-loop .loop .inv .0 ∙ start .pre .0, start .pre .1)
 
 returns-2 : tie.Need-returns-2 Inv-loop μ-loop
 returns-2 c =
+    let at-fault = c .before .before in let at-walk-row = at-fault .before .before .before .before in
+    let at-if1 = at-walk-row .before .before in let at-loop-test = at-if1 .before .before in
+    let at-loop = at-loop-test .before in
     rw (c .refusal-of .ensures)
-    (rows-stopped _ _ _ _ _ (c .before .before .before .before .before .before .before .before .before .before .loop-test .taken) (c .before .before .before .before .before .before .before .before .if1 .left) (rw (c .before .before .fault .given .1) at (c .before .before .before .before .before .before .walk-row .ensures)) ∙ c .before .before .before .before .before .before .before .before .before .before .before .loop .inv .1)
-
-sub-n : tie.Need-sub-n Inv-loop μ-loop
-sub-n c = omega (arith, c .before .before .before .before .before .before .before .before .before .loop-test .taken)
-
-loop-less : tie.Need-loop-less Inv-loop μ-loop
-loop-less c = omega (arith, c .before .before .before .before .before .before .before .before .before .loop-test .taken)
+    (rows-stopped _ _ _ _ _ (at-loop-test .loop-test .taken) (at-if1 .if1 .left) (rw (at-fault .fault .given .1) at (at-walk-row .walk-row .ensures)) ∙ at-loop .loop .inv .1)
 
 loop-again : tie.Need-loop-again Inv-loop μ-loop
-loop-again c = (
-  c .before .before .before .before .before .walk-row .kept .1 .1 .0 ∙ c .before .before .before .before .before .before .before .before .before .before .loop .inv .0,
-  rows-more _ _ _ _ _ (c .before .before .before .before .before .before .before .before .before .loop-test .taken) (c .before .before .before .before .before .before .before .if1 .left) (rw (c .before .next .given .1) at (c .before .before .before .before .before .walk-row .ensures)) ∙ c .before .before .before .before .before .before .before .before .before .before .loop .inv .1,
-)
+loop-again c =
+    let at-next = c .before in let at-walk-row = at-next .before .before .before .before in
+    let at-if1 = at-walk-row .before .before in let at-loop-test = at-if1 .before .before in
+    let at-loop = at-loop-test .before in (
+      at-walk-row .walk-row .kept .1 .1 .0 ∙ at-loop .loop .inv .0,
+      rows-more _ _ _ _ _ (at-loop-test .loop-test .taken) (at-if1 .if1 .left) (rw (at-next .next .given .1) at (at-walk-row .walk-row .ensures)) ∙ at-loop .loop .inv .1,
+    )
 
 returns-3 : tie.Need-returns-3 Inv-loop μ-loop
-returns-3 c = rows-none _ _ _ _ _ (omega (arith, c .loop-test .left)) ∙ c .before .loop .inv .1
+returns-3 c = rows-none _ _ _ _ _ (omega arith) ∙ c .before .loop .inv .1
 
 pub follow-rows-spec : {M : Type 1} → statement M
 follow-rows-spec =
-    tie.close
-    (tie.spec
-    Inv-loop
-    μ-loop
-    loop-holds
-    (λ c. search needs)
-    returns
-    walk-row-requires
-    (λ c. search needs)
-    (λ c κs. search needs)
-    (λ c. search needs)
-    returns-2
-    (λ c. search needs)
-    sub-n
-    loop-less
-    loop-again
-    (λ c. search needs)
-    returns-3)
+    tie.close (tie.spec Inv-loop μ-loop loop-holds (λ c. search needs) returns walk-row-requires (λ c. search needs)
+    (λ c κs. search needs) (λ c. search needs) returns-2 (λ c. search needs) (λ c. omega arith) (λ c. omega arith)
+    loop-again (λ c. search needs) returns-3)

@@ -6,9 +6,4 @@ returns : tie.Need-returns
 returns c = λ i. record { clear = c .before .join-part .ensures i; set = c .join-part2 .ensures i }
 
 pub join-spec : {M : Type 1} → statement M
-join-spec =
-    tie.close
-    (tie.spec
-    (λ c κs. search needs)
-    (λ c κs. search needs)
-    returns)
+join-spec = tie.close (tie.spec (λ c κs. search needs) (λ c κs. search needs) returns)

@@ -5,7 +5,7 @@ use Rattle.layout.proofs.overlay.edges_fit.Tie as tie
 
 returns : tie.Need-returns
 unfolding edgesFit
-returns c ws = rw (c .enum-told .given .1)
+returns c ws = search needs
 
 returns-2 : tie.Need-returns-2
 unfolding edgesFit
@@ -13,11 +13,5 @@ returns-2 c ws = rw (c .before .before .before .overlay .given .1, c .before .is
 
 pub edges-fit-spec : {M : Type 1} → statement M
 edges-fit-spec =
-    tie.close
-    (tie.spec
-    (λ c. search needs)
-    (λ c. search needs)
-    (λ c κs. search needs)
-    (λ c κs. search needs)
-    returns
+    tie.close (tie.spec (λ c. search needs) (λ c. search needs) (λ c κs. search needs) (λ c κs. search needs) returns
     returns-2)

@@ -8,34 +8,31 @@ use borrow.Author.Needs.{needs}
 use Rattle.marking.proofs.row_cells.walk_cells.Statement.{statement}
 use Rattle.marking.proofs.row_cells.walk_cells.Tie as tie
 
+abbrev to-start : tie.After-walk-around-arg → tie.Start
+to-start c = c .before .before .before .before .before .before .before
+
 walk-run-requires : tie.Need-walk-run-requires
 walk-run-requires c κs = (c .before .before .before .before .before .before .pre .0, rw (c .before .before .before .blank .ensures) (omega arith), omega arith)
 
 walk-around-requires : tie.Need-walk-around-requires
 walk-around-requires c κs =
-    let p = rw (c .before .before .overlay .given .1) at (c .before .before .before .before .before .before .before .pre .1) in
-    (c .before .before .before .before .before .before .before .pre .0, rw (c .before .before .before .before .blank .ensures) (omega arith), p .0, p .1)
+    let p = rw (c .before .before .overlay .given .1) at (to-start c .pre .1) in
+    (to-start c .pre .0, rw (c .before .before .before .before .blank .ensures) (omega arith), p .0, p .1)
 
 returns : tie.Need-returns
 unfolding rowCells
-returns c = λ cs.
-    let a = c .before .before .before .before .before .before .before .before .before .args in
-    rw (c .before .before .before .before .enum-told .given .1)
-    (rw (c .before .before .before .before .before .before .blank .ensures, whole-all (a .settings .hidden) 0 (segmentsOf (a .settings .linear) (a .count) (a .back .now))) at (c .before .before .walk-run .ensures .1 Background cs))
+returns c =
+    let at-walk-run = c .before .before in let at-enum-told = at-walk-run .before .before in
+    let at-blank = at-enum-told .before .before in let start = at-blank .before .before .before in
+    λ cs.
+    let a = start .args in
+    rw (at-enum-told .enum-told .given .1)
+    (rw (at-blank .blank .ensures, whole-all (a .settings .hidden) 0 (segmentsOf (a .settings .linear) (a .count) (a .back .now))) at (at-walk-run .walk-run .ensures .1 Background cs))
 
 returns-2 : tie.Need-returns-2
 returns-2 c = λ cs. rw (c .before .before .before .before .before .overlay .given .1) (rw (c .before .before .before .before .before .before .before .blank .ensures) at (c .before .before .walk-around .ensures (c .before .before .before .before .before .overlay .given .0 .0) cs))
 
 pub walk-cells-spec : {M : Type 1} → statement M
 walk-cells-spec =
-    tie.close
-    (tie.spec
-    (λ c κs. search needs)
-    (λ c. search needs)
-    walk-run-requires
-    (λ c. search needs)
-    walk-around-requires
-    (λ c. search needs)
-    returns
-    (λ c. search needs)
-    returns-2)
+    tie.close (tie.spec (λ c κs. search needs) (λ c. search needs) walk-run-requires (λ c. search needs)
+    walk-around-requires (λ c. search needs) returns (λ c. search needs) returns-2)
