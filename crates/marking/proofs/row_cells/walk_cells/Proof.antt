@@ -8,29 +8,29 @@ use borrow.Author.Needs.{needs}
 use Rattle.marking.proofs.row_cells.walk_cells.Statement.{statement}
 use Rattle.marking.proofs.row_cells.walk_cells.Tie as tie
 
-abbrev to-start : tie.After-walk-around-arg → tie.Start
-to-start c = c .before .before .before .before .before .before .before
-
 walk-run-requires : tie.Need-walk-run-requires
 walk-run-requires c κs = (c .before .before .before .before .before .before .pre .0, rw (c .before .before .before .blank .ensures) (omega arith), omega arith)
 
 walk-around-requires : tie.Need-walk-around-requires
 walk-around-requires c κs =
-    let p = rw (c .before .before .overlay .given .1) at (to-start c .pre .1) in
-    (to-start c .pre .0, rw (c .before .before .before .before .blank .ensures) (omega arith), p .0, p .1)
+    let start = c .before .before .before .before .before .before .before in
+    let narrow = rw (c .before .before .overlay .given .1) at (start .pre .1) in
+    (start .pre .0, rw (c .before .before .before .before .blank .ensures) (omega arith), narrow .0, narrow .1)
 
 returns : tie.Need-returns
 unfolding rowCells
-returns c =
-    let at-walk-run = c .before .before in let at-enum-told = at-walk-run .before .before in
-    let at-blank = at-enum-told .before .before in let start = at-blank .before .before .before in
-    λ cs.
-    let a = start .args in
-    rw (at-enum-told .enum-told .given .1)
+returns c = λ cs.
+    let at-walk-run = c .before .before in
+    let no-overlay = at-walk-run .before .before in
+    let at-blank = no-overlay .before .before in
+    let a = at-blank .before .before .before .args in
+    rw (no-overlay .enum-told .given .1)
     (rw (at-blank .blank .ensures, whole-all (a .settings .hidden) 0 (segmentsOf (a .settings .linear) (a .count) (a .back .now))) at (at-walk-run .walk-run .ensures .1 Background cs))
 
 returns-2 : tie.Need-returns-2
-returns-2 c = λ cs. rw (c .before .before .before .before .before .overlay .given .1) (rw (c .before .before .before .before .before .before .before .blank .ensures) at (c .before .before .walk-around .ensures (c .before .before .before .before .before .overlay .given .0 .0) cs))
+returns-2 c = λ cs.
+    let overlaid = c .before .before .before .before .before in
+    rw (overlaid .overlay .given .1) (rw (overlaid .before .before .blank .ensures) at (c .before .before .walk-around .ensures (overlaid .overlay .given .0 .0) cs))
 
 pub walk-cells-spec : {M : Type 1} → statement M
 walk-cells-spec =

@@ -9,25 +9,34 @@ use Rattle.marking.proofs.row_cells.walk_code.Tie as tie
 
 past-character-requires : tie.Need-past-character-requires
 unfolding taking
-past-character-requires c κs = rw (c .take-word .ensures) (c .before .before .before .before .before .before .before .before .before .before .before .before .before .before .pre .1)
+past-character-requires c κs =
+    let at-mark-word = c .before .before .before .before .before .before in
+    let takes-word = at-mark-word .before .before .before in
+    let start = takes-word .before .before .before .before .before in
+    rw (c .take-word .ensures) (start .pre .1)
 
 returns : tie.Need-returns
 returns c =
-    let at-fault = c .before in let at-mark-word = at-fault .before .before .before .before in
-    let at-if1 = at-mark-word .before .before .before in let at-invokes = at-if1 .before .before in (
+    let halted = c .before in
+    let at-mark-word = halted .before .before .before .before in
+    let takes-word = at-mark-word .before .before .before in
+    let at-invokes = takes-word .before .before in (
       tt,
       λ source cs.
-          examine-halted _ _ _ _ _ _ _ _ (rw (at-invokes .invokes .ensures) at (at-if1 .if1 .taken)) (rw (at-fault .fault .given .1) at (at-mark-word .mark-word .ensures Other refl)),
+          examine-halted _ _ _ _ _ _ _ _ (rw (at-invokes .invokes .ensures) at (takes-word .if1 .taken)) (rw (halted .fault .given .1) at (at-mark-word .mark-word .ensures Other refl)),
     )
 
 returns-2 : tie.Need-returns-2
 returns-2 c =
-    let at-take-word = c .before in let at-w = at-take-word .before .before in
-    let at-mark-word = at-w .before .before .before .before in let at-if1 = at-mark-word .before .before .before in
-    let at-invokes = at-if1 .before .before in let start = at-invokes .before .before .before in (
+    let at-take-word = c .before in
+    let marked = at-take-word .before .before in
+    let at-mark-word = marked .before .before .before .before in
+    let takes-word = at-mark-word .before .before .before in
+    let at-invokes = takes-word .before .before in
+    let start = at-invokes .before .before .before in (
       c .past-character .ensures .0,
       λ source cs.
-          examine-went _ _ _ _ _ _ _ _ (rw (at-invokes .invokes .ensures) at (at-if1 .if1 .taken)) (rw (at-w .w .given .1) at (at-mark-word .mark-word .ensures Other refl))
+          examine-went _ _ _ _ _ _ _ _ (rw (at-invokes .invokes .ensures) at (takes-word .if1 .taken)) (rw (marked .w .given .1) at (at-mark-word .mark-word .ensures Other refl))
           (rw (at-take-word .take-word .ensures) at (c .past-character .ensures .1 source (start .args .code) cs)),
     )
 

@@ -26,47 +26,56 @@ abbrev μ-loop : tie.MeasureT-loop
 
 returns : tie.Need-returns Inv-loop μ-loop
 returns c =
-    let at-fault = c .before in let at-mark-word = at-fault .before .before .before .before in
-    let at-loop-test = at-mark-word .before .before in let at-loop = at-loop-test .before in (
+    let halted = c .before in
+    let at-mark-word = halted .before .before .before .before in
+    let in-turn = at-mark-word .before .before in
+    let turn = in-turn .before in (
       tt,
       λ source.
-          at-loop .loop .inv .2 _ source (λ cs. codes-halted _ _ _ _ cs _ _ _ _ (at-loop-test .loop-test .taken) (rw (at-fault .fault .given .1) at (at-mark-word .mark-word .ensures Other refl))),
+          turn .loop .inv .2 _ source (λ cs. codes-halted _ _ _ _ cs _ _ _ _ (in-turn .loop-test .taken) (rw (halted .fault .given .1) at (at-mark-word .mark-word .ensures Other refl))),
     )
 
 walk-word-requires : tie.Need-walk-word-requires Inv-loop μ-loop
 walk-word-requires c κs =
     let at-mark-word = c .before .before .before .before .before .before .before in
-    let at-loop = at-mark-word .before .before .before in let start = at-loop .before .before .before in (
-      at-mark-word .mark-word .kept .1 .0 ∙ at-loop .loop .inv .0 ∙ start .pre .0,
-      at-loop .loop .inv .1,
+    let turn = at-mark-word .before .before .before in
+    let start = turn .before .before .before in (
+      at-mark-word .mark-word .kept .1 .0 ∙ turn .loop .inv .0 ∙ start .pre .0,
+      turn .loop .inv .1,
       omega arith,
       omega arith,
     )
 
 returns-2 : tie.Need-returns-2 Inv-loop μ-loop
 returns-2 c =
-    let at-fault2 = c .before in let at-walk-word = at-fault2 .before .before .before .before in
-    let at-codes-in-word = at-walk-word .before .before in let at-w = at-codes-in-word .before .before in
-    let at-mark-word = at-w .before .before .before .before in let at-loop-test = at-mark-word .before .before in
-    let at-loop = at-loop-test .before in (
+    let halted = c .before in
+    let at-walk-word = halted .before .before .before .before in
+    let at-codes-in-word = at-walk-word .before .before in
+    let marked = at-codes-in-word .before .before in
+    let at-mark-word = marked .before .before .before .before in
+    let in-turn = at-mark-word .before .before in
+    let turn = in-turn .before in (
       tt,
       λ source.
-          at-loop .loop .inv .2 _ source (λ cs.
-          codes-word-halted _ _ _ _ cs _ _ _ _ _ (at-loop-test .loop-test .taken) (rw (at-w .w .given .1) at (at-mark-word .mark-word .ensures Other refl))
-          (rw (at-fault2 .fault2 .given .1, at-codes-in-word .codes-in-word .ensures) at (at-walk-word .walk-word .ensures .1 source cs))),
+          turn .loop .inv .2 _ source (λ cs.
+          codes-word-halted _ _ _ _ cs _ _ _ _ _ (in-turn .loop-test .taken) (rw (marked .w .given .1) at (at-mark-word .mark-word .ensures Other refl))
+          (rw (halted .fault2 .given .1, at-codes-in-word .codes-in-word .ensures) at (at-walk-word .walk-word .ensures .1 source cs))),
     )
 
 loop-again : tie.Need-loop-again Inv-loop μ-loop
 loop-again c =
-    let at-after = c .before .before in let at-walk-word = at-after .before .before .before .before in
-    let at-codes-in-word = at-walk-word .before .before in let at-w = at-codes-in-word .before .before in
-    let at-mark-word = at-w .before .before .before .before in let at-loop-test = at-mark-word .before .before in
-    let at-loop = at-loop-test .before in (
-      at-walk-word .walk-word .kept .1 .0 ∙ at-mark-word .mark-word .kept .1 .0 ∙ at-loop .loop .inv .0,
-      rw (at-after .after .given .1) at (at-walk-word .walk-word .ensures .0),
-      λ r source k. at-loop .loop .inv .2 r source (λ cs.
-          codes-more _ _ _ _ cs _ _ _ _ _ (at-loop-test .loop-test .taken) (rw (at-w .w .given .1) at (at-mark-word .mark-word .ensures Other refl))
-          (rw (at-after .after .given .1, at-codes-in-word .codes-in-word .ensures) at (at-walk-word .walk-word .ensures .1 source cs))
+    let went = c .before .before in
+    let at-walk-word = went .before .before .before .before in
+    let at-codes-in-word = at-walk-word .before .before in
+    let marked = at-codes-in-word .before .before in
+    let at-mark-word = marked .before .before .before .before in
+    let in-turn = at-mark-word .before .before in
+    let turn = in-turn .before in (
+      at-walk-word .walk-word .kept .1 .0 ∙ at-mark-word .mark-word .kept .1 .0 ∙ turn .loop .inv .0,
+      rw (went .after .given .1) at (at-walk-word .walk-word .ensures .0),
+      λ r source k. turn .loop .inv .2 r source (λ cs.
+          codes-more _ _ _ _ cs _ _ _ _ _ (in-turn .loop-test .taken) (rw (marked .w .given .1) at (at-mark-word .mark-word .ensures Other refl))
+          (rw (went .after .given .1, at-codes-in-word .codes-in-word .ensures) at (at-walk-word .walk-word .ensures .1 source cs))
           (λ ds. rw (c .onward .ensures, at-codes-in-word .codes-in-word .ensures) at (k ds))),
     )
 

@@ -10,14 +10,19 @@ returns : tie.Need-returns
 returns c = (λ top h k. k, λ σ e cs. fill-none _ _ σ _ cs _ _ (c .if1 .taken))
 
 walk-fill-word-requires : tie.Need-walk-fill-word-requires
-walk-fill-word-requires c κs = (c .before .before .before .before .before .before .before .before .pre, omega arith)
+walk-fill-word-requires c κs =
+    let cells-left = c .before .before .before .before in
+    let start = cells-left .before .before .before .before in
+    (start .pre, omega arith)
 
 returns-2 : tie.Need-returns-2
 returns-2 c =
-    let at-walk-fill-word = c .before .before in let at-if2 = at-walk-fill-word .before .before in
-    let at-if1 = at-if2 .before .before .before in let start = at-if1 .before .before .before .before in (
+    let at-walk-fill-word = c .before .before in
+    let takes-word = at-walk-fill-word .before .before in
+    let cells-left = takes-word .before .before .before in
+    let start = cells-left .before .before .before .before in (
       λ top h k. up-more (at-walk-fill-word .walk-fill-word .result) h (at-walk-fill-word .walk-fill-word .ensures .0),
-      λ σ e cs. fill-by-word _ _ σ _ cs _ _ (at-if1 .if1 .left) (at-if2 .if2 .taken) (at-walk-fill-word .walk-fill-word .ensures .1 σ (start .args .fill) e cs),
+      λ σ e cs. fill-by-word _ _ σ _ cs _ _ (cells-left .if1 .left) (takes-word .if2 .taken) (at-walk-fill-word .walk-fill-word .ensures .1 σ (start .args .fill) e cs),
     )
 
 returns-3 : tie.Need-returns-3

@@ -12,23 +12,28 @@ returns c = (tt, λ σ fill e cs. fill-halted _ _ σ _ cs fill _ (rw (c .before 
 
 returns-2 : tie.Need-returns-2
 returns-2 c =
-    let at-take-word = c .before in let at-if1 = at-take-word .before in let at-bit-15 = at-if1 .before in
-    let at-w = at-bit-15 .before .before in let at-mark-word = at-w .before .before .before .before in
+    let at-take-word = c .before in
+    let bit-set = at-take-word .before in
+    let at-bit-15 = bit-set .before in
+    let marked = at-bit-15 .before .before in
+    let at-mark-word = marked .before .before .before .before in
     let start = at-mark-word .before .before .before .before .before in (
       rw (c .moved-to .ensures) (omega arith),
       λ σ fill e cs.
           rw (c .moved-to .ensures, at-take-word .take-word .ensures, ← e)
-          (fill-word _ _ σ _ cs fill _ (start .pre .1) (rw (at-w .w .given .1) at (at-mark-word .mark-word .ensures Other refl)) (sym (at-bit-15 .bit-15 .ensures) ∙ at-if1 .if1 .taken)),
+          (fill-word _ _ σ _ cs fill _ (start .pre .1) (rw (marked .w .given .1) at (at-mark-word .mark-word .ensures Other refl)) (sym (at-bit-15 .bit-15 .ensures) ∙ bit-set .if1 .taken)),
     )
 
 returns-3 : tie.Need-returns-3
 returns-3 c =
-    let at-if1 = c .before in let at-bit-15 = at-if1 .before in let at-w = at-bit-15 .before .before in
-    let at-mark-word = at-w .before .before .before .before in (
+    let bit-clear = c .before in
+    let at-bit-15 = bit-clear .before in
+    let marked = at-bit-15 .before .before in
+    let at-mark-word = marked .before .before .before .before in (
       tt,
       λ σ fill e cs.
           rw (c .unlatched .ensures)
-          (fill-unlatched _ _ σ _ cs fill _ (rw (at-w .w .given .1) at (at-mark-word .mark-word .ensures Other refl)) (sym (at-bit-15 .bit-15 .ensures) ∙ at-if1 .if1 .left)),
+          (fill-unlatched _ _ σ _ cs fill _ (rw (marked .w .given .1) at (at-mark-word .mark-word .ensures Other refl)) (sym (at-bit-15 .bit-15 .ensures) ∙ bit-clear .if1 .left)),
     )
 
 pub walk-fill-word-spec : {M : Type 1} → statement M

@@ -9,9 +9,6 @@ use borrow.Author.Needs.{needs}
 use Rattle.marking.proofs.row_cells.walk_segment.Statement.{statement}
 use Rattle.marking.proofs.row_cells.walk_segment.Tie as tie
 
-abbrev to-start : tie.After-walk-codes-arg → tie.Start
-to-start c = c .before .before .before .before .before .before .before .before .before
-
 add-end : tie.Need-add-end
 add-end c =
     let a = c .before .before .before .before .args in
@@ -20,39 +17,48 @@ add-end c =
     omega (arith, width-byte (a .settings .hidden) (a .g) l v)
 
 walk-codes-requires : tie.Need-walk-codes-requires
-walk-codes-requires c κs = (to-start c .pre .0, rw (c .before .before .before .with-list .ensures) (omega arith))
+walk-codes-requires c κs =
+    let at-with-list = c .before .before .before in
+    let start = at-with-list .before .before .before .before .before .before in
+    (start .pre .0, rw (at-with-list .with-list .ensures) (omega arith))
 
 walk-fill-requires : tie.Need-walk-fill-requires
 walk-fill-requires c κs =
     let at-walk-codes = c .before .before .before .before .before .before in
-    let start = to-start (at-walk-codes .before) in
+    let at-with-list = at-walk-codes .before .before .before .before in
+    let start = at-with-list .before .before .before .before .before .before in
     at-walk-codes .walk-codes .kept .1 .0 ∙ start .pre .0
 
 returns : tie.Need-returns
 unfolding segment
 returns c =
-    let at-fault = c .before in let at-walk-codes = at-fault .before .before .before .before in
-    let at-code-count = at-walk-codes .before .before in let at-with-list = at-code-count .before .before in
+    let halted = c .before in
+    let at-walk-codes = halted .before .before .before .before in
+    let at-code-count = at-walk-codes .before .before in
+    let at-with-list = at-code-count .before .before in
     let at-width = at-with-list .before .before .before in (
       tt,
       λ source cs.
-          then-halted _ _ _ _ (rw (at-fault .fault .given .1, at-with-list .with-list .ensures, at-code-count .code-count .ensures .0, at-width .width .ensures) at (at-walk-codes .walk-codes .ensures .1 source cs)),
+          then-halted _ _ _ _ (rw (halted .fault .given .1, at-with-list .with-list .ensures, at-code-count .code-count .ensures .0, at-width .width .ensures) at (at-walk-codes .walk-codes .ensures .1 source cs)),
     )
 
 returns-2 : tie.Need-returns-2
 unfolding segment
 returns-2 c =
-    let at-walk-fill = c .before .before in let at-after = at-walk-fill .before .before .before in
-    let at-walk-codes = at-after .before .before .before .before in let at-code-count = at-walk-codes .before .before in
-    let at-with-list = at-code-count .before .before in let at-width = at-with-list .before .before .before in
+    let at-walk-fill = c .before .before in
+    let went = at-walk-fill .before .before .before in
+    let at-walk-codes = went .before .before .before .before in
+    let at-code-count = at-walk-codes .before .before in
+    let at-with-list = at-code-count .before .before in
+    let at-width = at-with-list .before .before .before in
     let start = at-width .before .before .before in
     let a = start .args in
     let g = start .good .1 .1 .1 .1 .0 in
     let w = width-byte (a .settings .hidden) (a .g) (g .1 .1 .1 .1 .0 .1) (g .1 .1 .1 .1 .1 .0 .1) in
-    let reached = rw (at-after .after .given .1) at (at-walk-codes .walk-codes .ensures .0) in (
+    let reached = rw (went .after .given .1) at (at-walk-codes .walk-codes .ensures .0) in (
       at-walk-fill .walk-fill .ensures .0 (a .pen .column + 255) (omega (arith, at-width .width .ensures)) (omega (arith, at-width .width .ensures)),
       λ source cs.
-          then-went _ _ _ _ (rw (at-after .after .given .1, at-with-list .with-list .ensures, at-code-count .code-count .ensures .0, at-width .width .ensures) at (at-walk-codes .walk-codes .ensures .1 source cs))
+          then-went _ _ _ _ (rw (went .after .given .1, at-with-list .with-list .ensures, at-code-count .code-count .ensures .0, at-width .width .ensures) at (at-walk-codes .walk-codes .ensures .1 source cs))
           (λ ds. rw (at-width .width .ensures) at (at-walk-fill .walk-fill .ensures .1 (a .settings) refl ds)),
     )
 

@@ -31,55 +31,62 @@ Inv-loop mem marks₀ settings fill side segments count n current₀ at₀ i₀ 
 abbrev μ-loop : tie.MeasureT-loop
 μ-loop mem marks₀ settings fill side segments count n current₀ at₀ i₀ marks current at i = n - i
 
-abbrev to-start : tie.After-known-told2 Inv-loop μ-loop → tie.Start Inv-loop μ-loop
-to-start c = c .before .before .before .before .before .before .before .before .before .before .before .before .before .before .before
-
 loop-holds : tie.Need-loop-holds Inv-loop μ-loop
 loop-holds c = (omega arith, refl, omega arith, omega arith, λ r source h cs. rw segments-all at (h cs))
 
 walk-chosen-requires : tie.Need-walk-chosen-requires Inv-loop μ-loop
 walk-chosen-requires c κs =
-    let at-loop = c .before .before .before .before .before in let start = at-loop .before .before .before .before in
-    let l = at-loop .loop in
-    (l .inv .1 ∙ start .pre .0, omega arith)
+    let turn = c .before .before .before .before .before in
+    let start = turn .before .before .before .before in
+    (turn .loop .inv .1 ∙ start .pre .0, omega arith)
 
 returns : tie.Need-returns Inv-loop μ-loop
 returns c =
-    let at-fault = c .before in let at-walk-chosen = at-fault .before .before .before .before in
-    let at-on-side = at-walk-chosen .before .before in let at-width = at-on-side .before in
-    let at-segment-at = at-width .before in let at-loop-test = at-segment-at .before in
-    let at-loop = at-loop-test .before in (
+    let halted = c .before in
+    let at-walk-chosen = halted .before .before .before .before in
+    let at-on-side = at-walk-chosen .before .before in
+    let at-width = at-on-side .before in
+    let at-segment-at = at-width .before in
+    let in-turn = at-segment-at .before in
+    let turn = in-turn .before in (
       tt,
       λ source.
-          at-loop .loop .inv .4 _ source (λ cs.
-          side-halted _ _ _ _ _ _ _ _ _ _ _ cs (at-loop-test .loop-test .taken)
-          (rw (at-fault .fault .given .1, at-on-side .on-side .ensures, at-width .width .ensures, at-segment-at .segment-at .ensures) at (at-walk-chosen .walk-chosen .ensures .1 source cs))),
+          turn .loop .inv .4 _ source (λ cs.
+          side-halted _ _ _ _ _ _ _ _ _ _ _ cs (in-turn .loop-test .taken)
+          (rw (halted .fault .given .1, at-on-side .on-side .ensures, at-width .width .ensures, at-segment-at .segment-at .ensures) at (at-walk-chosen .walk-chosen .ensures .1 source cs))),
     )
 
 add-at : tie.Need-add-at Inv-loop μ-loop
 add-at c =
-    let l = c .before .before .before .before .before .before .before .before .before .before .before .loop in
-    let small : (to-start c) .args .count .number < 256 = search needs in
-    let g = c .before .before .before .before .before .before .before .before .before .segment-at in
-    omega (arith, width-byte (to-start c .args .settings .hidden) (g .result) (g .ok .1 .1 .1 .1 .0 .1) (g .ok .1 .1 .1 .1 .1 .0 .1))
+    let at-on-side = c .before .before .before .before .before .before .before in
+    let at-segment-at = at-on-side .before .before in
+    let turn = at-segment-at .before .before in
+    let start = turn .before .before .before .before in
+    let small : start .args .count .number < 256 = search needs in
+    let g = at-segment-at .segment-at in
+    omega (arith, width-byte (start .args .settings .hidden) (g .result) (g .ok .1 .1 .1 .1 .0 .1) (g .ok .1 .1 .1 .1 .1 .0 .1))
 
 loop-again : tie.Need-loop-again Inv-loop μ-loop
 loop-again c =
-    let at-after = c .before in let at-walk-chosen = at-after .before .before .before .before in
-    let at-on-side = at-walk-chosen .before .before in let at-width = at-on-side .before in
-    let at-segment-at = at-width .before in let at-loop-test = at-segment-at .before in
-    let at-loop = at-loop-test .before in let start = at-loop .before .before .before .before in
-    let l = at-loop .loop in
+    let went = c .before in
+    let at-walk-chosen = went .before .before .before .before in
+    let at-on-side = at-walk-chosen .before .before in
+    let at-width = at-on-side .before in
+    let at-segment-at = at-width .before in
+    let in-turn = at-segment-at .before in
+    let turn = in-turn .before in
+    let start = turn .before .before .before .before in
+    let l = turn .loop in
     let g = at-segment-at .segment-at in
     let w = width-byte (start .args .settings .hidden) (g .result) (g .ok .1 .1 .1 .1 .0 .1) (g .ok .1 .1 .1 .1 .1 .0 .1) in
-    let h = rw (at-after .after .given .1) at (at-walk-chosen .walk-chosen .ensures .0) in (
+    let reached = rw (went .after .given .1) at (at-walk-chosen .walk-chosen .ensures .0) in (
       omega arith,
       at-walk-chosen .walk-chosen .kept .1 .0 ∙ l .inv .1,
       omega arith,
       omega arith,
       λ r source k. l .inv .4 r source (λ cs.
-          side-more _ _ _ _ _ _ _ _ _ _ _ cs (at-loop-test .loop-test .taken)
-          (rw (at-after .after .given .1, at-on-side .on-side .ensures, at-width .width .ensures, at-segment-at .segment-at .ensures) at (at-walk-chosen .walk-chosen .ensures .1 source cs))
+          side-more _ _ _ _ _ _ _ _ _ _ _ cs (in-turn .loop-test .taken)
+          (rw (went .after .given .1, at-on-side .on-side .ensures, at-width .width .ensures, at-segment-at .segment-at .ensures) at (at-walk-chosen .walk-chosen .ensures .1 source cs))
           (λ ds. rw (at-width .width .ensures, at-segment-at .segment-at .ensures) at (k ds))),
     )
 

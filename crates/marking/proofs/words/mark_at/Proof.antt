@@ -6,7 +6,7 @@ use Rattle.marking.proofs.words.mark_at.Tie as tie
 
 returns : tie.Need-returns
 unfolding markAt
-returns c = search needs
+returns c = rw (c .enum-told .given .1)
 
 returns-2 : tie.Need-returns-2
 unfolding markAt

@@ -29,27 +29,28 @@ loop-holds : tie.Need-loop-holds Inv-loop μ-loop
 loop-holds c = (omega arith, refl, λ rs h. rw sub-zero)
 
 returns : tie.Need-returns Inv-loop μ-loop
-returns c =
-    let at-fault = c .before in let at-mark-word = at-fault .before .before .before .before in
-    let at-mark-at = at-mark-word .before in let at-loop-test = at-mark-at .before .before in
-    let at-loop = at-loop-test .before in
-    λ rs h.
-    let l = at-loop .loop in
-    let e = ap mark (role-ahead (l .i) rs) ∙ h (l .i) (at-loop-test .loop-test .taken) ∙ sym (at-mark-at .mark-at .ensures) in
-    sym (l .inv .2 rs h ∙ words-halted _ _ _ _ _ _ _ (omega arith) (sym (rw (at-fault .fault .given .1) at (at-mark-word .mark-word .ensures (roleAt (drop (l .i) rs) 0) e))))
+returns c = λ rs h.
+    let halted = c .before in
+    let at-mark-word = halted .before .before .before .before in
+    let at-mark-at = at-mark-word .before in
+    let in-turn = at-mark-at .before .before in
+    let l = in-turn .before .loop in
+    let e = ap mark (role-ahead (l .i) rs) ∙ h (l .i) (in-turn .loop-test .taken) ∙ sym (at-mark-at .mark-at .ensures) in
+    sym (l .inv .2 rs h ∙ words-halted _ _ _ _ _ _ _ (omega arith) (sym (rw (halted .fault .given .1) at (at-mark-word .mark-word .ensures (roleAt (drop (l .i) rs) 0) e))))
 
 loop-again : tie.Need-loop-again Inv-loop μ-loop
 loop-again c =
-    let at-enum-told = c .before in let at-mark-word = at-enum-told .before .before .before .before in
-    let at-mark-at = at-mark-word .before in let at-loop-test = at-mark-at .before .before in
-    let at-loop = at-loop-test .before in
-    let l = at-loop .loop in (
+    let marked = c .before in
+    let at-mark-word = marked .before .before .before .before in
+    let at-mark-at = at-mark-word .before in
+    let in-turn = at-mark-at .before .before in
+    let l = in-turn .before .loop in (
       omega arith,
       at-mark-word .mark-word .kept .1 .0 ∙ l .inv .1,
       λ rs h.
-          let e = ap mark (role-ahead (l .i) rs) ∙ h (l .i) (at-loop-test .loop-test .taken) ∙ sym (at-mark-at .mark-at .ensures) in
+          let e = ap mark (role-ahead (l .i) rs) ∙ h (l .i) (in-turn .loop-test .taken) ∙ sym (at-mark-at .mark-at .ensures) in
           l .inv .2 rs h
-          ∙ words-went _ _ _ _ _ _ _ (omega arith) (sym (rw (at-enum-told .enum-told .given .1) at (at-mark-word .mark-word .ensures (roleAt (drop (l .i) rs) 0) e)))
+          ∙ words-went _ _ _ _ _ _ _ (omega arith) (sym (rw (marked .enum-told .given .1) at (at-mark-word .mark-word .ensures (roleAt (drop (l .i) rs) 0) e)))
           ∙ rw (c .onward .ensures, drop-drop 1 (l .i) rs, sub-add-eq),
     )
 
