@@ -10,17 +10,20 @@ returns c = sym (then-faulted _ _ _ _ _ _ (sym (rw (c .before .fault .given .1) 
 
 returns-2 : tie.Need-returns-2
 returns-2 c =
-    let at-background-row = c .before .before in let at-enum-told = at-background-row .before .before in
-    let at-mark-row = at-enum-told .before .before .before .before in
-    sym (then-refused _ _ _ _ _ _ (sym (rw (at-enum-told .enum-told .given .1) at (at-mark-row .mark-row .ensures))) (sym (rw (c .enum-told2 .given .1) at (at-background-row .background-row .ensures))))
+    let at-background-row = c .before .before in
+    let passed = at-background-row .before .before in
+    let at-mark-row = passed .before .before .before .before in
+    sym (then-refused _ _ _ _ _ _ (sym (rw (passed .enum-told .given .1) at (at-mark-row .mark-row .ensures))) (sym (rw (c .enum-told2 .given .1) at (at-background-row .background-row .ensures))))
 
 returns-3 : tie.Need-returns-3
 returns-3 c =
-    let at-mark-overlay = c .before .before in let at-enum-told3 = at-mark-overlay .before .before in
-    let at-background-row = at-enum-told3 .before .before in let at-enum-told = at-background-row .before .before in
-    let at-mark-row = at-enum-told .before .before .before .before in
+    let at-mark-overlay = c .before .before in
+    let read = at-mark-overlay .before .before in
+    let at-background-row = read .before .before in
+    let passed = at-background-row .before .before in
+    let at-mark-row = passed .before .before .before .before in
     at-mark-overlay .mark-overlay .ensures
-    ∙ sym (then-given _ _ _ _ _ _ (sym (rw (at-enum-told .enum-told .given .1) at (at-mark-row .mark-row .ensures))) (sym (rw (at-enum-told3 .enum-told3 .given .1) at (at-background-row .background-row .ensures))))
+    ∙ sym (then-given _ _ _ _ _ _ (sym (rw (passed .enum-told .given .1) at (at-mark-row .mark-row .ensures))) (sym (rw (read .enum-told3 .given .1) at (at-background-row .background-row .ensures))))
 
 pub mark-background-spec : {M : Type 1} → statement M
 mark-background-spec =

@@ -16,19 +16,26 @@ returns : tie.Need-returns
 returns c = sym (block-null _ _ _ _ _ _ (eq-eqb _ 0 (c .if1 .taken)))
 
 returns-2 : tie.Need-returns-2
-returns-2 c = sym (block-faulted _ _ _ _ _ _ (ne-eqb _ 0 (c .before .before .before .before .before .before .before .if1 .left)) (sym (rw (c .before .fault .given .1) at (c .before .before .before .before .before .mark-words .ensures onePointer (one-shaped 3)))))
+returns-2 c =
+    let halted = c .before in
+    let at-mark-words = halted .before .before .before .before in
+    let not-null = at-mark-words .before .before in
+    sym (block-faulted _ _ _ _ _ _ (ne-eqb _ 0 (not-null .if1 .left)) (sym (rw (halted .fault .given .1) at (at-mark-words .mark-words .ensures onePointer (one-shaped 3)))))
 
 returns-3 : tie.Need-returns-3
 returns-3 c =
-    let at-mark-rest = c .before .before in let at-pointed = at-mark-rest .before in
-    let at-word-in = at-pointed .before .before in let at-words-ahead = at-word-in .before in
-    let at-enum-told = at-words-ahead .before in let at-mark-words = at-enum-told .before .before .before .before in
-    let at-if1 = at-mark-words .before .before in let start = at-if1 .before .before .before .before in
-    let a = start .args in
+    let at-mark-rest = c .before .before in
+    let at-pointed = at-mark-rest .before in
+    let at-word-in = at-pointed .before .before in
+    let at-words-ahead = at-word-in .before in
+    let passed = at-words-ahead .before in
+    let at-mark-words = passed .before .before .before .before in
+    let not-null = at-mark-words .before .before in
+    let a = not-null .before .before .before .before .args in
     let w : at-word-in .word-in .result ≡ wordOf (a .mem .now) (ahead (a .linear) 2 (a .p .address)) = at-word-in .word-in .ensures ∙ ap (wordOf (a .mem .now)) (at-words-ahead .words-ahead .ensures) in
     let h = third-word 0 (a .mem .now) (a .linear) (a .p .address) ∙ ap (λ (x : ℕ). x % 16) (sym w) in
     (rw (at-pointed .pointed .ensures .0, w) at (at-mark-rest .mark-rest .ensures (wordsIn (a .linear) (a .mem .now) 3 (a .p .address)) h))
-    ∙ sym (block-passed _ _ _ _ _ _ (ne-eqb _ 0 (at-if1 .if1 .left)) (sym (rw (at-enum-told .enum-told .given .1) at (at-mark-words .mark-words .ensures onePointer (one-shaped 3)))))
+    ∙ sym (block-passed _ _ _ _ _ _ (ne-eqb _ 0 (not-null .if1 .left)) (sym (rw (passed .enum-told .given .1) at (at-mark-words .mark-words .ensures onePointer (one-shaped 3)))))
 
 pub mark-block-spec : {M : Type 1} → statement M
 mark-block-spec =

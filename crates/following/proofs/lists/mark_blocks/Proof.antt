@@ -8,7 +8,8 @@ use Rattle.following.proofs.lists.mark_blocks.Tie as tie
 
 due-window-requires : tie.Need-due-window-requires
 due-window-requires c κs =
-    let start = c .before .before .before .before .before .before .before .before in
+    let at-mark-due = c .before .before .before .before in
+    let start = at-mark-due .before .before .before .before in
     numbered (start .args .fields) (start .pre .1)
 
 returns : tie.Need-returns
@@ -16,15 +17,20 @@ returns c = sym (due-faulted _ _ _ _ _ (sym (rw (c .before .fault .given .1) at 
 
 returns-2 : tie.Need-returns-2
 returns-2 c =
-    sym (due-refused _ _ _ _ _ (sym (rw (c .before .before .before .enum-told .given .1) at (c .before .before .before .before .before .before .before .mark-due .ensures))) (sym (rw (c .enum-told2 .given .1) at (c .before .before .due-window .ensures))))
+    let at-due-window = c .before .before in
+    let passed = at-due-window .before in
+    let at-mark-due = passed .before .before .before .before in
+    sym (due-refused _ _ _ _ _ (sym (rw (passed .enum-told .given .1) at (at-mark-due .mark-due .ensures))) (sym (rw (c .enum-told2 .given .1) at (at-due-window .due-window .ensures))))
 
 returns-3 : tie.Need-returns-3
 returns-3 c =
-    let at-mark-background = c .before .before in let at-window = at-mark-background .before .before .before in
-    let at-due-window = at-window .before .before in let at-enum-told = at-due-window .before in
-    let at-mark-due = at-enum-told .before .before .before .before in
+    let at-mark-background = c .before .before in
+    let read = at-mark-background .before .before .before in
+    let at-due-window = read .before .before in
+    let passed = at-due-window .before in
+    let at-mark-due = passed .before .before .before .before in
     at-mark-background .mark-background .ensures
-    ∙ sym (due-given _ _ _ _ _ (sym (rw (at-enum-told .enum-told .given .1) at (at-mark-due .mark-due .ensures))) (sym (rw (at-window .window .given .1) at (at-due-window .due-window .ensures))))
+    ∙ sym (due-given _ _ _ _ _ (sym (rw (passed .enum-told .given .1) at (at-mark-due .mark-due .ensures))) (sym (rw (read .window .given .1) at (at-due-window .due-window .ensures))))
 
 pub mark-blocks-spec : {M : Type 1} → statement M
 mark-blocks-spec =

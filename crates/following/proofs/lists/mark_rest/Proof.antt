@@ -9,21 +9,23 @@ use Rattle.following.proofs.lists.mark_rest.Statement.{statement}
 use Rattle.following.proofs.lists.mark_rest.Tie as tie
 
 returns : tie.Need-returns
-returns c =
-    let at-fault = c .before in let at-mark-words = at-fault .before .before .before .before in
-    let at-further = at-mark-words .before .before in let start = at-further .before .before .before in
-    λ head h.
-    sym (rest-faulted _ _ _ _ _ head _ (sym (rw (at-fault .fault .given .1, at-further .further .ensures) at (at-mark-words .mark-words .ensures onePointer (one-shaped (start .args .pointed))))))
+returns c = λ head h.
+    let halted = c .before in
+    let at-mark-words = halted .before .before .before .before in
+    let at-further = at-mark-words .before .before in
+    let start = at-further .before .before .before in
+    sym (rest-faulted _ _ _ _ _ head _ (sym (rw (halted .fault .given .1, at-further .further .ensures) at (at-mark-words .mark-words .ensures onePointer (one-shaped (start .args .pointed))))))
 
 returns-2 : tie.Need-returns-2
-returns-2 c =
-    let at-mark-words2 = c .before .before in let at-further2 = at-mark-words2 .before .before in
-    let at-enum-told = at-further2 .before in let at-mark-words = at-enum-told .before .before .before .before in
-    let at-further = at-mark-words .before .before in let start = at-further .before .before .before in
-    λ head h.
-    let a = start .args in
+returns-2 c = λ head h.
+    let at-mark-words2 = c .before .before in
+    let at-further2 = at-mark-words2 .before .before in
+    let passed = at-further2 .before in
+    let at-mark-words = passed .before .before .before .before in
+    let at-further = at-mark-words .before .before in
+    let a = at-further .before .before .before .args in
     (rw (at-further2 .further2 .ensures) at (at-mark-words2 .mark-words2 .ensures (segmentRoles (a .number)) (segments-shaped (a .number))))
-    ∙ sym (rest-passed _ _ _ _ _ head _ _ h (sym (rw (at-enum-told .enum-told .given .1, at-further .further .ensures) at (at-mark-words .mark-words .ensures onePointer (one-shaped (a .pointed))))))
+    ∙ sym (rest-passed _ _ _ _ _ head _ _ h (sym (rw (passed .enum-told .given .1, at-further .further .ensures) at (at-mark-words .mark-words .ensures onePointer (one-shaped (a .pointed))))))
 
 pub mark-rest-spec : {M : Type 1} → statement M
 mark-rest-spec =

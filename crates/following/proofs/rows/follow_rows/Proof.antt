@@ -23,24 +23,29 @@ returns c = rows-ended _ _ _ _ _ (c .before .before .loop-test .taken) (c .if1 .
 
 walk-row-requires : tie.Need-walk-row-requires Inv-loop μ-loop
 walk-row-requires c κs =
-    let at-loop = c .before .before .before .before in let start = at-loop .before .before .before in
-    (at-loop .loop .inv .0 ∙ start .pre .0, start .pre .1)
+    let turn = c .before .before .before .before in
+    let start = turn .before .before .before in
+    (turn .loop .inv .0 ∙ start .pre .0, start .pre .1)
 
 returns-2 : tie.Need-returns-2 Inv-loop μ-loop
 returns-2 c =
-    let at-fault = c .before .before in let at-walk-row = at-fault .before .before .before .before in
-    let at-if1 = at-walk-row .before .before in let at-loop-test = at-if1 .before .before in
-    let at-loop = at-loop-test .before in
+    let halted = c .before .before in
+    let at-walk-row = halted .before .before .before .before in
+    let lines-left = at-walk-row .before .before in
+    let in-turn = lines-left .before .before in
+    let turn = in-turn .before in
     rw (c .refusal-of .ensures)
-    (rows-stopped _ _ _ _ _ (at-loop-test .loop-test .taken) (at-if1 .if1 .left) (rw (at-fault .fault .given .1) at (at-walk-row .walk-row .ensures)) ∙ at-loop .loop .inv .1)
+    (rows-stopped _ _ _ _ _ (in-turn .loop-test .taken) (lines-left .if1 .left) (rw (halted .fault .given .1) at (at-walk-row .walk-row .ensures)) ∙ turn .loop .inv .1)
 
 loop-again : tie.Need-loop-again Inv-loop μ-loop
 loop-again c =
-    let at-next = c .before in let at-walk-row = at-next .before .before .before .before in
-    let at-if1 = at-walk-row .before .before in let at-loop-test = at-if1 .before .before in
-    let at-loop = at-loop-test .before in (
-      at-walk-row .walk-row .kept .1 .1 .0 ∙ at-loop .loop .inv .0,
-      rows-more _ _ _ _ _ (at-loop-test .loop-test .taken) (at-if1 .if1 .left) (rw (at-next .next .given .1) at (at-walk-row .walk-row .ensures)) ∙ at-loop .loop .inv .1,
+    let went = c .before in
+    let at-walk-row = went .before .before .before .before in
+    let lines-left = at-walk-row .before .before in
+    let in-turn = lines-left .before .before in
+    let turn = in-turn .before in (
+      at-walk-row .walk-row .kept .1 .1 .0 ∙ turn .loop .inv .0,
+      rows-more _ _ _ _ _ (in-turn .loop-test .taken) (lines-left .if1 .left) (rw (went .next .given .1) at (at-walk-row .walk-row .ensures)) ∙ turn .loop .inv .1,
     )
 
 returns-3 : tie.Need-returns-3 Inv-loop μ-loop

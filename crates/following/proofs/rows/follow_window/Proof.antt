@@ -7,30 +7,35 @@ use Rattle.following.proofs.rows.follow_window.Tie as tie
 
 returns : tie.Need-returns
 returns c =
-    let at-fault = c .before .before in let at-mark-window = at-fault .before .before .before .before in
-    let at-pointer-of = at-mark-window .before .before in let start = at-pointer-of .before .before .before in
-    let p = start .pre in
-    rw (c .refusal-of .ensures) (window-faulted _ _ _ _ _ (p .2) (sym (rw (at-fault .fault .given .1, at-pointer-of .pointer-of .ensures) at (at-mark-window .mark-window .ensures 0 0))))
+    let halted = c .before .before in
+    let at-mark-window = halted .before .before .before .before in
+    let at-pointer-of = at-mark-window .before .before in
+    let p = at-pointer-of .before .before .before .pre in
+    rw (c .refusal-of .ensures) (window-faulted _ _ _ _ _ (p .2) (sym (rw (halted .fault .given .1, at-pointer-of .pointer-of .ensures) at (at-mark-window .mark-window .ensures 0 0))))
 
 returns-2 : tie.Need-returns-2
 returns-2 c =
-    let at-refusal = c .before in let at-start-main = at-refusal .before .before in
-    let at-enum-told = at-start-main .before in let at-mark-window = at-enum-told .before .before .before .before in
-    let at-pointer-of = at-mark-window .before .before in let start = at-pointer-of .before .before .before in
-    let p = start .pre in
-    window-refused _ _ _ _ _ (p .2) (sym (rw (at-enum-told .enum-told .given .1, at-pointer-of .pointer-of .ensures) at (at-mark-window .mark-window .ensures 0 0))) (p .3)
-    (rw (at-refusal .refusal .given .1) at (at-start-main .start-main .ensures))
+    let refused = c .before in
+    let at-start-main = refused .before .before in
+    let passed = at-start-main .before in
+    let at-mark-window = passed .before .before .before .before in
+    let at-pointer-of = at-mark-window .before .before in
+    let p = at-pointer-of .before .before .before .pre in
+    window-refused _ _ _ _ _ (p .2) (sym (rw (passed .enum-told .given .1, at-pointer-of .pointer-of .ensures) at (at-mark-window .mark-window .ensures 0 0))) (p .3)
+    (rw (refused .refusal .given .1) at (at-start-main .start-main .ensures))
 
 returns-3 : tie.Need-returns-3
 returns-3 c =
-    let at-follow-rows = c .before .before in let at-started = at-follow-rows .before .before .before .before in
-    let at-start-main = at-started .before .before in let at-enum-told = at-start-main .before in
-    let at-mark-window = at-enum-told .before .before .before .before in
-    let at-pointer-of = at-mark-window .before .before in let start = at-pointer-of .before .before .before in
-    let p = start .pre in
+    let at-follow-rows = c .before .before in
+    let accepted = at-follow-rows .before .before .before .before in
+    let at-start-main = accepted .before .before in
+    let passed = at-start-main .before in
+    let at-mark-window = passed .before .before .before .before in
+    let at-pointer-of = at-mark-window .before .before in
+    let p = at-pointer-of .before .before .before .pre in
     at-follow-rows .follow-rows .ensures
-    ∙ window-given _ _ _ _ _ (p .2) (sym (rw (at-enum-told .enum-told .given .1, at-pointer-of .pointer-of .ensures) at (at-mark-window .mark-window .ensures 0 0))) (p .3)
-    (rw (at-started .started .given .1) at (at-start-main .start-main .ensures))
+    ∙ window-given _ _ _ _ _ (p .2) (sym (rw (passed .enum-told .given .1, at-pointer-of .pointer-of .ensures) at (at-mark-window .mark-window .ensures 0 0))) (p .3)
+    (rw (accepted .started .given .1) at (at-start-main .start-main .ensures))
 
 pub follow-window-spec : {M : Type 1} → statement M
 follow-window-spec =

@@ -13,17 +13,19 @@ walk-cells-requires c κs =
 
 returns : tie.Need-returns
 returns c =
-    let at-fault = c .before in let at-walk-cells = at-fault .before .before .before .before in
+    let halted = c .before in
+    let at-walk-cells = halted .before .before .before .before in
     let at-code-settings = at-walk-cells .before .before in
     let start = at-code-settings .before .before .before .before .before in
-    planned-halted (start .args .settings) _ _ _ _ _ (rw (at-fault .fault .given .1, at-code-settings .code-settings .ensures) at (at-walk-cells .walk-cells .ensures []))
+    planned-halted (start .args .settings) _ _ _ _ _ (rw (halted .fault .given .1, at-code-settings .code-settings .ensures) at (at-walk-cells .walk-cells .ensures []))
 
 returns-2 : tie.Need-returns-2
 returns-2 c =
-    let at-pen = c .before .before in let at-walk-cells = at-pen .before .before .before .before in
+    let went = c .before .before in
+    let at-walk-cells = went .before .before .before .before in
     let at-code-settings = at-walk-cells .before .before in
     let start = at-code-settings .before .before .before .before .before in
-    planned-went (start .args .settings) _ _ _ _ _ (rw (at-pen .pen .given .1, at-code-settings .code-settings .ensures) at (at-walk-cells .walk-cells .ensures []))
+    planned-went (start .args .settings) _ _ _ _ _ (rw (went .pen .given .1, at-code-settings .code-settings .ensures) at (at-walk-cells .walk-cells .ensures []))
 
 pub walk-planned-spec : {M : Type 1} → statement M
 walk-planned-spec =
