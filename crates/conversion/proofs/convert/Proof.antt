@@ -7,9 +7,6 @@ use borrow.Author.Needs.{needs}
 use Rattle.conversion.proofs.convert.Statement.{statement}
 use Rattle.conversion.proofs.convert.Tie as tie
 
-abbrev to-else3 : tie.After-follow → tie.Else3
-to-else3 c = c .before .before .before .before .before .before .before
-
 returns : tie.Need-returns
 returns c = rw (c .refused .ensures) (other-number _ _ _ _ (c .before .if1 .taken))
 
@@ -21,43 +18,59 @@ returns-3 c = rw (c .refused3 .ensures) (is-linear _ _ _ _ (c .before .before .b
 
 follow-requires : tie.Need-follow-requires
 follow-requires c κs =
-    let at-clear = c .before .before .before .before in let at-if3 = at-clear .before .before in
-    let at-if2 = at-if3 .before in let at-is-good = at-if2 .before in let at-if1 = at-is-good .before in (
-      rw (at-if1 .if1 .left) at (at-clear .clear .ensures),
-      at-clear .clear .kept .0 ∙ at-if1 .if1 .left,
-      sym (at-is-good .is-good .ensures) ∙ not-false _ (at-if2 .if2 .left),
-      at-if3 .if3 .left,
+    let at-clear = c .before .before .before .before in
+    let segmented = at-clear .before .before in
+    let good-settings = segmented .before in
+    let at-is-good = good-settings .before in
+    let as-many = at-is-good .before in (
+      rw (as-many .if1 .left) at (at-clear .clear .ensures),
+      at-clear .clear .kept .0 ∙ as-many .if1 .left,
+      sym (at-is-good .is-good .ensures) ∙ not-false _ (good-settings .if2 .left),
+      segmented .if3 .left,
     )
 
 turn-requires : tie.Need-turn-requires
 turn-requires c κs =
     let at-follow = c .before .before .before .before .before .before in
     let at-clear = at-follow .before .before .before .before .before in
-    let at-if1 = at-clear .before .before .before .before .before in
-    at-follow .follow .kept .1 .1 .0 ∙ at-clear .clear .kept .0 ∙ at-if1 .if1 .left
+    let as-many = at-clear .before .before .before .before .before in
+    at-follow .follow .kept .1 .1 .0 ∙ at-clear .clear .kept .0 ∙ as-many .if1 .left
+
+add-t26 : tie.Need-add-t26
+add-t26 c =
+    let at-turn = c .before .before .before .before in
+    omega (arith, at-turn)
 
 returns-4 : tie.Need-returns-4
 returns-4 c =
-    let at-refusal = c .before in let at-follow = at-refusal .before .before .before .before in
-    let at-if3 = to-else3 at-follow in let at-if2 = at-if3 .before in
-    let at-is-good = at-if2 .before in let at-if1 = at-is-good .before in
-    was-stopped _ _ _ _ (at-if1 .if1 .left) (sym (at-is-good .is-good .ensures) ∙ not-false _ (at-if2 .if2 .left)) (at-if3 .if3 .left)
-    (rw (at-refusal .refusal .given .1) at (at-follow .follow .ensures))
+    let stopped = c .before in
+    let at-follow = stopped .before .before .before .before in
+    let at-clear = at-follow .before .before .before .before .before in
+    let segmented = at-clear .before .before in
+    let good-settings = segmented .before in
+    let at-is-good = good-settings .before in
+    let as-many = at-is-good .before in
+    was-stopped _ _ _ _ (as-many .if1 .left) (sym (at-is-good .is-good .ensures) ∙ not-false _ (good-settings .if2 .left)) (segmented .if3 .left)
+    (rw (stopped .refusal .given .1) at (at-follow .follow .ensures))
 
 returns-5 : tie.Need-returns-5
 returns-5 c =
-    let at-turned-settings = c .before in let at-turn = at-turned-settings .before .before .before in
-    let at-enum-told = at-turn .before .before .before in
-    let at-follow = at-enum-told .before .before .before .before in
-    let at-if3 = to-else3 at-follow in let at-if2 = at-if3 .before in
-    let at-is-good = at-if2 .before in let at-if1 = at-is-good .before in
+    let at-turned-settings = c .before in
+    let at-turn = at-turned-settings .before .before .before in
+    let ended = at-turn .before .before .before in
+    let at-follow = ended .before .before .before .before in
+    let at-clear = at-follow .before .before .before .before .before in
+    let segmented = at-clear .before .before in
+    let good-settings = segmented .before in
+    let at-is-good = good-settings .before in
+    let as-many = at-is-good .before in
     rw (at-turned-settings .turned-settings .ensures, c .register-changes .ensures .0, at-turn .turn .ensures .1, at-turn .turn .ensures .0)
-    (was-ended _ _ _ _ (at-if1 .if1 .left) (sym (at-is-good .is-good .ensures) ∙ not-false _ (at-if2 .if2 .left)) (at-if3 .if3 .left)
-    (rw (at-enum-told .enum-told .given .1) at (at-follow .follow .ensures)))
+    (was-ended _ _ _ _ (as-many .if1 .left) (sym (at-is-good .is-good .ensures) ∙ not-false _ (good-settings .if2 .left)) (segmented .if3 .left)
+    (rw (ended .enum-told .given .1) at (at-follow .follow .ensures)))
 
 pub convert-spec : {M : Type 1} → statement M
 convert-spec =
     tie.close (tie.spec (λ c κs. search needs) returns (λ c κs. search needs) (λ c κs. search needs) returns-2
     (λ c κs. search needs) returns-3 (λ c κs. search needs) follow-requires (λ c. search needs) (λ c. search needs)
-    turn-requires (λ c κs. search needs) (λ c κs. search needs) (λ c. omega (arith, c .before .before .before .before))
+    turn-requires (λ c κs. search needs) (λ c κs. search needs) add-t26
     (λ c. search needs) (λ c. search needs) returns-4 (λ c. search needs) (λ c. search needs) returns-5)

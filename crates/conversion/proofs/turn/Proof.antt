@@ -23,10 +23,10 @@ loop-holds c = (omega arith, refl, sym (turned-none _), sym (changes-none _), om
 
 loop-again : tie.Need-loop-again Inv-loop μ-loop
 loop-again c =
-    let at-turned-word = c .before in let at-loop = at-turned-word .before .before .before .before in
-    let start = at-loop .before .before .before in
-    let l = at-loop .loop in
-    let a = start .args in
+    let at-turned-word = c .before in
+    let turn = at-turned-word .before .before .before .before in
+    let l = turn .loop in
+    let a = turn .before .before .before .args in
     let here : l .i < length (a .mem .now) = omega arith in
     let marked : l .i < length (a .marks .now) = omega arith in
     let same : getD (l .mem) (l .i) 0 ≡ getD (a .mem .now) (l .i) 0 = ap (λ (xs : List ℕ). getD xs (l .i) 0) (l .inv .2) ∙ turned-at _ _ (a .mem .now) in
