@@ -124,4 +124,11 @@ pub count-fits : (latch : ℕ) (σ : Settings) (m : List ℕ) (marks : ℕ) (c :
 unfolding linesForRows
 count-fits latch σ m marks c h v e =
     let t = all-turn latch σ m marks c h e in
-    omega (arith, few-changes m (frameRead latch σ m) (convertCall latch σ m marks .memory) (t .size) (t .unread), frame-few latch σ m (h .0), lines-few (σ .interlace) (σ .val - σ .vsd), change-one (σ .top .first) (turnedFirst (σ .top .first)), change-one (σ .tow .first) (turnedFirst (σ .tow .first)))
+    omega (
+      arith,
+      few-changes m (frameRead latch σ m) (convertCall latch σ m marks .memory) (t .size) (t .unread),
+      frame-few latch σ m (h .0),
+      lines-few (σ .interlace) (σ .val - σ .vsd),
+      change-one (σ .top .first) (turnedFirst (σ .top .first)),
+      change-one (σ .tow .first) (turnedFirst (σ .tow .first)),
+    )

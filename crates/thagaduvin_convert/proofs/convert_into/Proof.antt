@@ -11,35 +11,40 @@ use Rattle.thagaduvin_convert.proofs.convert_into.Tie as tie
 
 cast-write-number : tie.Need-cast-write-number
 cast-write-number c =
-    let at-c = c .before .before .before .before .before .before .before in
-    let at-convert = at-c .before .before .before .before .before .before in
-    let at-slice-known2 = at-convert .before .before .before .before .before in
-    let back = at-slice-known2 .before .before in
-    let s = back in
-    let g = s .good .0 in
-    let val : s .args .s .val < 65536 = omega (arith, g) in
-    let top : s .args .s .top .second < 65536 = omega (arith, g) in
-    let tow : s .args .s .tow .second < 65536 = omega (arith, g) in
-    let e = rw (at-c .c .given .1) at (at-convert .convert .ensures) in
-    omega (arith, count-fits _ _ _ _ _ ((λ i. at-slice-known2 .slice-known2 .given i .fits), top, tow) val (sym (ap (λ (x : Called). x .answer) e)))
+    let accepted = c .before .before .before .before .before .before .before in
+    let at-convert = accepted .before .before .before .before .before .before in
+    let known = at-convert .before .before .before .before .before in
+    let start = known .before .before in
+    let g = start .good .0 in
+    let val : start .args .s .val < 65536 = omega (arith, g) in
+    let top : start .args .s .top .second < 65536 = omega (arith, g) in
+    let tow : start .args .s .tow .second < 65536 = omega (arith, g) in
+    let e = rw (accepted .c .given .1) at (at-convert .convert .ensures) in
+    omega (arith, count-fits _ _ _ _ _ ((λ i. known .slice-known2 .given i .fits), top, tow) val (sym (ap (λ (x : Called). x .answer) e)))
 
 write-number-requires : tie.Need-write-number-requires
-write-number-requires c κs = c .before .before .before .before .before .before .before .before .before .before .before .before .before .before .before .before .before .before .before .before .before .pre .1
+write-number-requires c κs =
+    let at-write-settings = c .before .before .before .before in
+    let accepted = at-write-settings .before .before .before .before in
+    let at-convert = accepted .before .before .before .before .before .before in
+    let start = at-convert .before .before .before .before .before .before .before in
+    start .pre .1
 
 returns : tie.Need-returns
 returns c =
     let at-write-number = c .before .before in
     let at-write-settings = at-write-number .before .before .before .before .before in
-    let at-c = at-write-settings .before .before .before .before in
-    let at-convert = at-c .before .before .before .before .before .before in
-    let e = rw (at-c .c .given .1) at (at-convert .convert .ensures) in
+    let accepted = at-write-settings .before .before .before .before in
+    let at-convert = accepted .before .before .before .before .before .before in
+    let e = rw (accepted .c .given .1) at (at-convert .convert .ensures) in
     rw (at-write-number .write-number .ensures, at-write-settings .write-settings .ensures) (ap (afterCall _) e)
 
 returns-2 : tie.Need-returns-2
 returns-2 c =
-    let at-write-refusal = c .before .before in let at-r = at-write-refusal .before .before .before in
-    let at-convert = at-r .before .before .before .before .before .before in
-    let e = rw (at-r .r .given .1) at (at-convert .convert .ensures) in
+    let at-write-refusal = c .before .before in
+    let refused = at-write-refusal .before .before .before in
+    let at-convert = refused .before .before .before .before .before .before in
+    let e = rw (refused .r .given .1) at (at-convert .convert .ensures) in
     rw (at-write-refusal .write-refusal .ensures) (ap (afterCall _) e)
 
 pub convert-into-spec : {M : Type 1} → statement M

@@ -12,17 +12,19 @@ returns c = rw (ne-eqb _ _ (c .if1 .taken))
 
 convert-into-requires : tie.Need-convert-into-requires
 convert-into-requires c κs =
-    let at-s = c .before .before .before .before .before in let at-settings-in = at-s .before .before in
-    let at-if1 = at-settings-in .before .before in
-    (fit-length _ (rw (at-s .s .given .1) at (at-settings-in .settings-in .ensures)), at-if1 .if1 .left)
+    let fit = c .before .before .before .before .before in
+    let at-settings-in = fit .before .before in
+    let four-long = at-settings-in .before .before in
+    (fit-length _ (rw (fit .s .given .1) at (at-settings-in .settings-in .ensures)), four-long .if1 .left)
 
 returns-2 : tie.Need-returns-2
 unfolding hostConvert
 returns-2 c =
-    let at-convert-into = c .before .before .before .before .before .before .before .before in
-    let at-s = at-convert-into .before .before .before .before .before .before in
-    let at-settings-in = at-s .before .before in let at-if1 = at-settings-in .before .before in
-    rw (eq-eqb _ _ (at-if1 .if1 .left), ← at-settings-in .settings-in .ensures, at-s .s .given .1) (at-convert-into .convert-into .ensures)
+    let at-convert-into : tie.After-convert-into = search in
+    let fit = at-convert-into .before .before .before .before .before .before in
+    let at-settings-in = fit .before .before in
+    let four-long = at-settings-in .before .before in
+    rw (eq-eqb _ _ (four-long .if1 .left), ← at-settings-in .settings-in .ensures, fit .s .given .1) (at-convert-into .convert-into .ensures)
 
 returns-3 : tie.Need-returns-3
 unfolding hostConvert
