@@ -32,34 +32,39 @@ loop-holds c = (omega arith, refl, c .before .before .pre .1, omega arith, rw su
 
 returns : tie.Need-returns Inv-loop μ-loop
 returns c =
-    let at-number = c .before in let at-examine-code = at-number .before .before .before .before in
-    let at-code-at = at-examine-code .before .before in let at-loop-test = at-code-at .before in
-    let at-loop = at-loop-test .before in let start = at-loop .before .before .before in
+    let refused = c .before in
+    let at-examine-code = refused .before .before .before .before in
+    let at-code-at = at-examine-code .before .before in
+    let in-turn = at-code-at .before in
+    let at-loop = in-turn .before in
+    let start = at-loop .before .before .before in
     let a = start .args in
     let l = at-loop .loop in (
-      ((rw (at-number .number .given .1) at (at-examine-code .examine-code .ensures .0)) .0, omega arith),
+      ((rw (refused .number .given .1) at (at-examine-code .examine-code .ensures .0)) .0, omega arith),
       sym (l .inv .4
           ∙ bytes-refused (l .read) (a .mem .now) (a .settings) (a .room .source) (a .room .end) (bytes (a .w)) (a .n) (l .i) (soFar (l .current) (l .cells))
-          (at-loop-test .loop-test .taken) (start .pre .2) (sym (rw (at-number .number .given .1, at-code-at .code-at .ensures) at (at-examine-code .examine-code .ensures .1)))),
+          (in-turn .loop-test .taken) (start .pre .2) (sym (rw (refused .number .given .1, at-code-at .code-at .ensures) at (at-examine-code .examine-code .ensures .1)))),
     )
 
 loop-again : tie.Need-loop-again Inv-loop μ-loop
 loop-again c =
-    let at-after = c .before in let at-examine-code = at-after .before .before .before .before in
-    let at-code-at = at-examine-code .before .before in let at-loop-test = at-code-at .before in
-    let at-loop = at-loop-test .before in let start = at-loop .before .before .before in
+    let accepted = c .before in
+    let at-examine-code = accepted .before .before .before .before in
+    let at-code-at = at-examine-code .before .before in
+    let in-turn = at-code-at .before in
+    let at-loop = in-turn .before in
+    let start = at-loop .before .before .before in
     let a = start .args in
     let l = at-loop .loop in
-    let test = at-loop-test .loop-test .taken in
     let e = at-examine-code .examine-code in
-    let h = rw (at-after .after .given .1) at (e .ensures .0) in (
+    let h = rw (accepted .after .given .1) at (e .ensures .0) in (
       omega arith,
       e .kept .1 .1 .1 .1 .1 .1 .0 ∙ l .inv .1,
       h .0,
       omega arith,
       l .inv .4
           ∙ bytes-more (l .read) (a .mem .now) (a .settings) (a .room .source) (a .room .end) (bytes (a .w)) (a .n) (l .i) (soFar (l .current) (l .cells))
-          test (start .pre .2) (sym (rw (at-after .after .given .1, at-code-at .code-at .ensures) at (e .ensures .1))),
+          (in-turn .loop-test .taken) (start .pre .2) (sym (rw (accepted .after .given .1, at-code-at .code-at .ensures) at (e .ensures .1))),
     )
 
 returns-2 : tie.Need-returns-2 Inv-loop μ-loop

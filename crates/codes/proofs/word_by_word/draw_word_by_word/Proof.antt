@@ -21,12 +21,16 @@ abbrev μ-loop : tie.MeasureT-loop
 
 returns : tie.Need-returns Inv-loop μ-loop
 returns c =
-    let a = c .before .before .before .before .before .before .before .before .before .args in
-    let l = c .before .before .before .before .before .before .loop in (
-      (omega arith, omega arith),
+    let absent = c .before .before in
+    let at-word-at = absent .before .before in
+    let in-turn = at-word-at .before in
+    let at-loop = in-turn .before in
+    let a = at-loop .before .before .before .args in
+    let l = at-loop .loop in (
+      (omega (arith, c .before .missing), omega arith),
       rw (c .before .missing .ensures) (sym (l .inv .3
-          ∙ codes-absent (l .read) (a .mem .now) (a .settings) (a .room .source) (a .room .end) (l .at) (soFar (l .current) (l .cells)) (l .left) (c .before .before .before .before .before .loop-test .taken)
-          (sym (c .before .before .before .before .word-at .ensures) ∙ c .before .before .enum-told .given .1))),
+          ∙ codes-absent (l .read) (a .mem .now) (a .settings) (a .room .source) (a .room .end) (l .at) (soFar (l .current) (l .cells)) (l .left) (in-turn .loop-test .taken)
+          (sym (at-word-at .word-at .ensures) ∙ absent .enum-told .given .1))),
     )
 
 draw-word-requires : tie.Need-draw-word-requires Inv-loop μ-loop
@@ -36,37 +40,42 @@ draw-word-requires c κs =
 
 returns-2 : tie.Need-returns-2 Inv-loop μ-loop
 returns-2 c =
-    let at-number = c .before in let at-draw-word = at-number .before .before .before .before in
-    let at-codes-in-word = at-draw-word .before .before in let at-w = at-codes-in-word .before .before in
-    let at-word-at = at-w .before .before in let at-loop-test = at-word-at .before in
-    let at-loop = at-loop-test .before in let start = at-loop .before .before .before in
-    let a = start .args in
+    let refused = c .before in
+    let at-draw-word = refused .before .before .before .before in
+    let at-codes-in-word = at-draw-word .before .before in
+    let there = at-codes-in-word .before .before in
+    let at-word-at = there .before .before in
+    let in-turn = at-word-at .before in
+    let at-loop = in-turn .before in
+    let a = at-loop .before .before .before .args in
     let l = at-loop .loop in (
-      ((rw (at-number .number .given .1) at (at-draw-word .draw-word .ensures .0)) .0, omega arith),
+      ((rw (refused .number .given .1) at (at-draw-word .draw-word .ensures .0)) .0, omega arith),
       sym (l .inv .3
           ∙ codes-refused (l .read) (a .mem .now) (a .settings) (a .room .source) (a .room .end) (l .at) (soFar (l .current) (l .cells)) _
-          (sym (at-word-at .word-at .ensures) ∙ at-w .w .given .1) (l .left) (at-loop-test .loop-test .taken)
-          (sym (rw (at-number .number .given .1, at-codes-in-word .codes-in-word .ensures) at (at-draw-word .draw-word .ensures .1)))),
+          (sym (at-word-at .word-at .ensures) ∙ there .w .given .1) (l .left) (in-turn .loop-test .taken)
+          (sym (rw (refused .number .given .1, at-codes-in-word .codes-in-word .ensures) at (at-draw-word .draw-word .ensures .1)))),
     )
 
 loop-again : tie.Need-loop-again Inv-loop μ-loop
 loop-again c =
-    let at-after = c .before .before in let at-draw-word = at-after .before .before .before .before in
-    let at-codes-in-word = at-draw-word .before .before in let at-w = at-codes-in-word .before .before in
-    let at-word-at = at-w .before .before in let at-loop-test = at-word-at .before in
-    let at-loop = at-loop-test .before in let start = at-loop .before .before .before in
-    let a = start .args in
+    let accepted = c .before .before in
+    let at-draw-word = accepted .before .before .before .before in
+    let at-codes-in-word = at-draw-word .before .before in
+    let there = at-codes-in-word .before .before in
+    let at-word-at = there .before .before in
+    let in-turn = at-word-at .before in
+    let at-loop = in-turn .before in
+    let a = at-loop .before .before .before .args in
     let l = at-loop .loop in
-    let test = at-loop-test .loop-test .taken in
     let e = at-draw-word .draw-word in
-    let h = rw (at-after .after .given .1, at-codes-in-word .codes-in-word .ensures) at (e .ensures .0) in (
+    let h = rw (accepted .after .given .1, at-codes-in-word .codes-in-word .ensures) at (e .ensures .0) in (
       e .kept .1 .1 .1 .1 .1 .1 .1 .0 ∙ l .inv .0,
       h .0,
       omega arith,
       l .inv .3
           ∙ codes-more (l .read) (a .mem .now) (a .settings) (a .room .source) (a .room .end) (l .at) (soFar (l .current) (l .cells)) _
-          (sym (at-word-at .word-at .ensures) ∙ at-w .w .given .1) (l .left) test
-          (sym (rw (at-after .after .given .1, at-codes-in-word .codes-in-word .ensures) at (e .ensures .1)))
+          (sym (at-word-at .word-at .ensures) ∙ there .w .given .1) (l .left) (in-turn .loop-test .taken)
+          (sym (rw (accepted .after .given .1, at-codes-in-word .codes-in-word .ensures) at (e .ensures .1)))
           ∙ rw (c .onward .ensures, at-codes-in-word .codes-in-word .ensures),
     )
 
