@@ -20,27 +20,33 @@ segments-from-requires c κs = (search needs, rw (c .before .before .words-befor
 returns-2 : tie.Need-returns-2
 unfolding blockAt
 returns-2 c =
-    let at-segments-from = c .before .before in let at-words-before = at-segments-from .before .before .before in
-    let at-redefinition = at-words-before .before .before in
-    let at-redefinition-pointer = at-redefinition .before .before in
-    let at-is-pointed = at-redefinition-pointer .before in let at-enum-told = at-is-pointed .before in
-    let at-read-words = at-enum-told .before .before .before in let at-if1 = at-read-words .before .before in
-    let start = at-if1 .before .before .before .before in
+    let at-segments-from = c .before .before in
+    let at-words-before = at-segments-from .before .before .before in
+    let pointer-read = at-words-before .before .before in
+    let at-redefinition-pointer = pointer-read .before .before in
+    let at-is-pointed = at-redefinition-pointer .before in
+    let head-read = at-is-pointed .before in
+    let at-read-words = head-read .before .before .before in
+    let not-null = at-read-words .before .before in
+    let start = not-null .before .before .before .before in
     let r = at-read-words .read-words in
-    rw (ne-eqb _ 0 (at-if1 .if1 .left))
+    rw (ne-eqb _ 0 (not-null .if1 .left))
     (at-segments-from .segments-from .ensures
-    ∙ block-read _ _ (start .args .redefines) _ _ (read-whole _ _ 3 _ _ _ (r .ensures) (at-enum-told .enum-told .given .1) (r .kept .1 .1 .1 .0)) _ (at-is-pointed .is-pointed .ensures) _ (at-redefinition-pointer .redefinition-pointer .ensures) _ _ (at-redefinition .redefinition .given .1) (at-words-before .words-before .ensures))
+    ∙ block-read _ _ (start .args .redefines) _ _ (read-whole _ _ 3 _ _ _ (r .ensures) (head-read .enum-told .given .1) (r .kept .1 .1 .1 .0)) _ (at-is-pointed .is-pointed .ensures) _ (at-redefinition-pointer .redefinition-pointer .ensures) _ _ (pointer-read .redefinition .given .1) (at-words-before .words-before .ensures))
 
 returns-3 : tie.Need-returns-3
 unfolding blockAt
 returns-3 c =
-    let at-fault = c .before in let at-redefinition-pointer = at-fault .before .before in
-    let at-is-pointed = at-redefinition-pointer .before in let at-enum-told = at-is-pointed .before in
-    let at-read-words = at-enum-told .before .before .before in let at-if1 = at-read-words .before .before in
-    let start = at-if1 .before .before .before .before in
+    let refused = c .before in
+    let at-redefinition-pointer = refused .before .before in
+    let at-is-pointed = at-redefinition-pointer .before in
+    let head-read = at-is-pointed .before in
+    let at-read-words = head-read .before .before .before in
+    let not-null = at-read-words .before .before in
+    let start = not-null .before .before .before .before in
     let r = at-read-words .read-words in
-    rw (ne-eqb _ 0 (at-if1 .if1 .left))
-    (block-refused _ _ (start .args .redefines) _ _ (read-whole _ _ 3 _ _ _ (r .ensures) (at-enum-told .enum-told .given .1) (r .kept .1 .1 .1 .0)) _ (at-is-pointed .is-pointed .ensures) _ (at-redefinition-pointer .redefinition-pointer .ensures) _ (at-fault .fault .given .1))
+    rw (ne-eqb _ 0 (not-null .if1 .left))
+    (block-refused _ _ (start .args .redefines) _ _ (read-whole _ _ 3 _ _ _ (r .ensures) (head-read .enum-told .given .1) (r .kept .1 .1 .1 .0)) _ (at-is-pointed .is-pointed .ensures) _ (at-redefinition-pointer .redefinition-pointer .ensures) _ (refused .fault .given .1))
 
 returns-4 : tie.Need-returns-4
 unfolding blockAt

@@ -1,3 +1,4 @@
+-- Each field is the definition's; what is cast has few bits, so nothing is lost.
 use mathlib.Core.Path.{refl}
 use Rattle.blocks.specs.RowBlock.{formatOf}
 use borrow.Author.Needs.{needs}

@@ -1,3 +1,4 @@
+-- Bit 15 is `memory::bit_15`'s, and the rest is the definition's.
 use borrow.Author.Needs.{needs}
 use Rattle.blocks.proofs.is_pointed.Statement.{statement}
 use Rattle.blocks.proofs.is_pointed.Tie as tie

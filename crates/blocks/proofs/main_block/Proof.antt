@@ -1,3 +1,4 @@
+-- Seven words are read, and `main_block_of` makes the block of them; a refused reading is the refusal.
 use mathlib.Core.Path.{sym, ap, _∙_}
 use Rattle.memory.specs.Reading.{given}
 use Rattle.memory.proofs.Laws.{step-given, step-refused, run-done}

@@ -1,3 +1,4 @@
+-- The cursor, the fill's code and the pointer to the rows are their calls'; the other fields are the definition's as they stand.
 use Rattle.blocks.specs.Main.{mainBlock}
 use borrow.Author.Needs.{needs}
 use Rattle.blocks.proofs.main_block_of.Statement.{statement}
@@ -6,9 +7,11 @@ use Rattle.blocks.proofs.main_block_of.Tie as tie
 returns : tie.Need-returns
 unfolding mainBlock
 returns c =
-    let at-pointer-of = c .before .before in let at-low-byte2 = at-pointer-of .before .before .before .before in
-    let at-low-byte = at-low-byte2 .before .before in let at-high-byte = at-low-byte .before .before in
-    rw (at-pointer-of .pointer-of .ensures, at-low-byte2 .low-byte2 .ensures, at-low-byte .low-byte .ensures, at-high-byte .high-byte .ensures)
+    let rows = c .before .before in
+    let fill-code = rows .before .before .before .before in
+    let cursor-y = fill-code .before .before in
+    let cursor-x = cursor-y .before .before in
+    rw (rows .pointer-of .ensures, fill-code .low-byte2 .ensures, cursor-y .low-byte .ensures, cursor-x .high-byte .ensures)
 
 pub main-block-of-spec : {M : Type 1} → statement M
 main-block-of-spec =

@@ -1,3 +1,4 @@
+-- A null pointer changes nothing and reads nothing; any other is read, three words, and `format_of` makes the format of them.
 use mathlib.Core.Path.{sym, ap, _∙_}
 use borrow.Author.Tests.{eq-eqb, ne-eqb}
 use Rattle.memory.specs.Reading.{given}

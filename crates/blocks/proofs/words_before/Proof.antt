@@ -1,3 +1,4 @@
+-- A redefinition pointer is two words more, by the same test as in the definition.
 use Rattle.blocks.proofs.words_before.Statement.{statement}
 use Rattle.blocks.proofs.words_before.Tie as tie
 
