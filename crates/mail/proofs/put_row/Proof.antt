@@ -25,13 +25,13 @@ loop-holds c = (omega arith, search needs, omega arith, rw (c .put .ensures .fro
 
 loop-again : tie.Need-loop-again Inv-loop μ-loop
 loop-again c =
-    let at-put-cell = c .before .before in let at-loop = at-put-cell .before .before .before .before in
-    let back = at-loop .before .before .before .before .before in
-    let s = back in
-    let a = s .args in
+    let at-put-cell = c .before .before in
+    let at-loop = at-put-cell .before .before .before .before in
+    let start = at-loop .before .before .before .before .before in
+    let a = start .args in
     let t = at-loop .loop in
     let p = at-put-cell .put-cell in
-    let n : length (map textCell (take (a .columns) (a .cells .now))) ≡ a .columns = length-map (take (a .columns) (a .cells .now)) textCell ∙ length-take-le (a .columns) (a .cells .now) (s .pre .1) in (
+    let n : length (map textCell (take (a .columns) (a .cells .now))) ≡ a .columns = length-map (take (a .columns) (a .cells .now)) textCell ∙ length-take-le (a .columns) (a .cells .now) (start .pre .1) in (
       omega arith,
       search needs,
       omega arith,
@@ -41,11 +41,12 @@ loop-again c =
 
 returns : tie.Need-returns Inv-loop μ-loop
 returns c =
-    let s = c .before .before .before .before .before .before .before .before in
-    let a = s .args in
-    let t = c .before .before .before .loop in
+    let at-loop = c .before .before .before in
+    let start = at-loop .before .before .before .before .before in
+    let a = start .args in
+    let t = at-loop .loop in
     let l = map textCell (take (a .columns) (a .cells .now)) in
-    let n : length l ≡ a .columns = length-map (take (a .columns) (a .cells .now)) textCell ∙ length-take-le (a .columns) (a .cells .now) (s .pre .1) in
+    let n : length l ≡ a .columns = length-map (take (a .columns) (a .cells .now)) textCell ∙ length-take-le (a .columns) (a .cells .now) (start .pre .1) in
     (omega arith, c .put-end .ensures .1 ∙ sym (t .inv .3 ∙ rw (cells-end (t .before) l (t .i) (omega arith))))
 
 pub put-row-spec : {M : Type 1} → statement M

@@ -23,30 +23,34 @@ returns c =
 
 returns-2 : tie.Need-returns-2
 returns-2 c =
-    let at-if2 = c .before in let at-is-good = at-if2 .before in let at-if1 = at-is-good .before in
-    let start = at-if1 .before .before .before in
-    let a = start .args in
-    rw (c .refuse2 .ensures) (lit≤ tt, not-good (a .settings) _ (a .text .now) (at-if1 .if1 .left) (sym (at-is-good .is-good .ensures) ∙ not-true _ (at-if2 .if2 .taken)))
+    let settings-bad = c .before in
+    let at-is-good = settings-bad .before in
+    let right-count = at-is-good .before in
+    let a = right-count .before .before .before .args in
+    rw (c .refuse2 .ensures) (lit≤ tt, not-good (a .settings) _ (a .text .now) (right-count .if1 .left) (sym (at-is-good .is-good .ensures) ∙ not-true _ (settings-bad .if2 .taken)))
 
 put-row-requires : tie.Need-put-row-requires
 put-row-requires c κs =
-    let at-if2 = c .before .before in let at-is-good = at-if2 .before in
-    let start = at-is-good .before .before .before .before in
-    let a = start .args in
-    let g = ordered (a .settings) (sym (at-is-good .is-good .ensures) ∙ not-false _ (at-if2 .if2 .left)) in
+    let settings-good = c .before .before in
+    let at-is-good = settings-good .before in
+    let a = at-is-good .before .before .before .before .args in
+    let g = ordered (a .settings) (sym (at-is-good .is-good .ensures) ∙ not-false _ (settings-good .if2 .left)) in
     (omega arith, omega arith)
 
 returns-3 : tie.Need-returns-3
 returns-3 c =
-    let at-if3 = c .before in let at-put-row = at-if3 .before in let at-shown-columns = at-put-row .before in
-    let at-if2 = at-shown-columns .before .before in let at-is-good = at-if2 .before in
-    let at-if1 = at-is-good .before in let start = at-if1 .before .before .before in
-    let a = start .args in
-    let g : good (a .settings) ≡ true = sym (at-is-good .is-good .ensures) ∙ not-false _ (at-if2 .if2 .left) in
+    let short = c .before in
+    let at-put-row = short .before in
+    let at-shown-columns = at-put-row .before in
+    let settings-good = at-shown-columns .before .before in
+    let at-is-good = settings-good .before in
+    let right-count = at-is-good .before in
+    let a = right-count .before .before .before .args in
+    let g : good (a .settings) ≡ true = sym (at-is-good .is-good .ensures) ∙ not-false _ (settings-good .if2 .left) in
     let p = at-put-row .put-row in
     let e = p .ensures .1 ∙ ap (λ (n : ℕ). rowText (map textCell (take n (a .cells .now)))) (at-shown-columns .shown-columns .ensures) in
     rw (c .refuse3 .ensures)
-    (lit≤ tt, too-short (a .settings) _ (a .text .now) (at-if1 .if1 .left) g (p .last .0) _ (p .ensures .0) e (at-if3 .if3 .taken))
+    (lit≤ tt, too-short (a .settings) _ (a .text .now) (right-count .if1 .left) g (p .last .0) _ (p .ensures .0) e (short .if3 .taken))
 
 slice-aggregate-put : tie.Need-slice-aggregate-put
 slice-aggregate-put c =
@@ -60,14 +64,21 @@ put-requires c κs =
 
 returns-4 : tie.Need-returns-4
 returns-4 c =
-    let at-put = c .before .before in let at-if3 = at-put .before .before .before in let at-put-row = at-if3 .before in
-    let at-shown-columns = at-put-row .before in let at-if2 = at-shown-columns .before .before in
-    let at-is-good = at-if2 .before in let at-if1 = at-is-good .before in let start = at-if1 .before .before .before in
-    let a = start .args in
-    let g : good (a .settings) ≡ true = sym (at-is-good .is-good .ensures) ∙ not-false _ (at-if2 .if2 .left) in
+    let at-put = c .before .before in
+    let long-enough = at-put .before .before .before in
+    let at-put-row = long-enough .before in
+    let at-shown-columns = at-put-row .before in
+    let settings-good = at-shown-columns .before .before in
+    let at-is-good = settings-good .before in
+    let right-count = at-is-good .before in
+    let a = right-count .before .before .before .args in
+    let g : good (a .settings) ≡ true = sym (at-is-good .is-good .ensures) ∙ not-false _ (settings-good .if2 .left) in
     let p = at-put-row .put-row in
     let e = p .ensures .1 ∙ ap (λ (n : ℕ). rowText (map textCell (take n (a .cells .now)))) (at-shown-columns .shown-columns .ensures) in
-    (few-bytes (a .settings) _ (a .text .now) (at-if1 .if1 .left) g (p .last .0) _ (p .ensures .0) e, all-written (a .settings) _ (a .text .now) (at-if1 .if1 .left) g (p .last .0) _ (p .ensures .0) e _ _ (at-if3 .if3 .left) (at-put .put .ensures))
+    let h = right-count .if1 .left in (
+      few-bytes (a .settings) _ (a .text .now) h g (p .last .0) _ (p .ensures .0) e,
+      all-written (a .settings) _ (a .text .now) h g (p .last .0) _ (p .ensures .0) e _ _ (long-enough .if3 .left) (at-put .put .ensures),
+    )
 
 pub write-mail-spec : {M : Type 1} → statement M
 write-mail-spec =
