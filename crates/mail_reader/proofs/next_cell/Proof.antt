@@ -29,16 +29,17 @@ returns c =
 
 loop-again : tie.Need-loop-again Inv-loop μ-loop
 loop-again c =
-    let at-i = c .before .before in let at-try-marks = at-i .before .before in
-    let at-loop-test = at-try-marks .before in let at-loop = at-loop-test .before in
-    let start = at-loop .before .before in
-    let a = start .args in
+    let stopped = c .before .before in
+    let at-try-marks = stopped .before .before in
+    let in-turn = at-try-marks .before in
+    let at-loop = in-turn .before in
+    let a = at-loop .before .before .args in
     let l = at-loop .loop in
-    let e = rw (at-i .i .given .1) at (at-try-marks .try-marks .ensures) in (
+    let e = rw (stopped .i .given .1) at (at-try-marks .try-marks .ensures) in (
       omega arith,
       omega arith,
       omega arith,
-      rw (c .larger .ensures) (trial-stopped _ _ _ (l .reach) (a .text .now) (l .inv .3) _ (at-loop-test .loop-test .taken) (e .0)),
+      rw (c .larger .ensures) (trial-stopped _ _ _ (l .reach) (a .text .now) (l .inv .3) _ (in-turn .loop-test .taken) (e .0)),
     )
 
 returns-2 : tie.Need-returns-2 Inv-loop μ-loop

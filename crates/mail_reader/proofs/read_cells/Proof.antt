@@ -25,12 +25,13 @@ end-row-requires c κs =
 
 returns : tie.Need-returns Inv-loop μ-loop
 returns c =
-    let at-reach = c .before .before .before in let at-next-cell = at-reach .before .before in
-    let at-loop-test = at-next-cell .before .before in let at-loop = at-loop-test .before in
-    let l = at-loop .loop in
-    let e = rw (at-reach .reach .given .1, rest-whole _ _) at (at-next-cell .next-cell .ensures) in
+    let stopped = c .before .before .before in
+    let at-next-cell = stopped .before .before in
+    let in-turn = at-next-cell .before .before in
+    let l = in-turn .before .loop in
+    let e = rw (stopped .reach .given .1, rest-whole _ _) at (at-next-cell .next-cell .ensures) in
     let r = c .end-row .ensures (l .row) (omega arith) in
-    (r .0 ∙ rw (rest-whole _ _) (sym (row-stops _ _ _ (l .at) (l .before) (l .count) (l .inv .4) (at-loop-test .loop-test .taken) _ (e .0))), r .1)
+    (r .0 ∙ rw (rest-whole _ _) (sym (row-stops _ _ _ (l .at) (l .before) (l .count) (l .inv .4) (in-turn .loop-test .taken) _ (e .0))), r .1)
 
 add-at : tie.Need-add-at Inv-loop μ-loop
 add-at c =
@@ -39,13 +40,14 @@ add-at c =
 
 loop-again : tie.Need-loop-again Inv-loop μ-loop
 loop-again c =
-    let at-cell = c .before in let at-next-cell = at-cell .before .before in
-    let at-loop-test = at-next-cell .before .before in let at-loop = at-loop-test .before in
-    let start = at-loop .before .before .before in
-    let a = start .args in
+    let found = c .before in
+    let at-next-cell = found .before .before in
+    let in-turn = at-next-cell .before .before in
+    let at-loop = in-turn .before in
+    let a = at-loop .before .before .before .args in
     let l = at-loop .loop in
-    let e = rw (at-cell .cell .given .1, rest-whole (a .text .now) (l .at)) at (at-next-cell .next-cell .ensures) in
-    let h = at-loop-test .loop-test .taken in (
+    let e = rw (found .cell .given .1, rest-whole (a .text .now) (l .at)) at (at-next-cell .next-cell .ensures) in
+    let h = in-turn .loop-test .taken in (
       omega arith,
       simp length-set (l .inv .1),
       omega arith,

@@ -15,24 +15,28 @@ cast-t11 c =
 
 returns : tie.Need-returns
 returns c =
-    let r = rw (c .before .before .before .before .count .given .1) at (c .before .before .before .before .before .before .before .read-row .ensures) in
+    let is-row = c .before .before .before .before in
+    let at-read-row = is-row .before .before .before in
+    let r = rw (is-row .count .given .1) at (at-read-row .read-row .ensures) in
     rw (c .refusal-of2 .ensures, c .before .fault-of .ensures)
-    (lit≤ tt, too-short _ _ (c .before .before .before .before .before .before .before .read-row .last .1 .0) _ (r .1) (r .0) (c .before .before .if1 .taken))
+    (lit≤ tt, too-short _ _ (at-read-row .read-row .last .1 .0) _ (r .1) (r .0) (c .before .before .if1 .taken))
 
 array-share-prefix-row : tie.Need-array-share-prefix-row
 array-share-prefix-row c = (rw (c .before .before .count .given .1) at (c .before .before .before .before .before .read-row .ensures)) .1
 
 slice-aggregate-copy : tie.Need-slice-aggregate-copy
 slice-aggregate-copy c =
-    let at-count = c .before .before .before in let at-read-row = at-count .before .before .before in
-    let r = rw (at-count .count .given .1) at (at-read-row .read-row .ensures) in
-    sym (length-take-le (at-count .count .given .0 .0) (at-read-row .read-row .last .1 .0) (r .1))
+    let is-row = c .before .before .before in
+    let at-read-row = is-row .before .before .before in
+    let r = rw (is-row .count .given .1) at (at-read-row .read-row .ensures) in
+    sym (length-take-le (is-row .count .given .0 .0) (at-read-row .read-row .last .1 .0) (r .1))
 
 copy-requires : tie.Need-copy-requires
 copy-requires c κs =
-    let at-count = c .before .before .before .before in let at-read-row = at-count .before .before .before in
-    let r = rw (at-count .count .given .1) at (at-read-row .read-row .ensures) in
-    omega (arith, length-take-le (at-count .count .given .0 .0) (at-read-row .read-row .last .1 .0) (r .1))
+    let is-row = c .before .before .before .before in
+    let at-read-row = is-row .before .before .before in
+    let r = rw (is-row .count .given .1) at (at-read-row .read-row .ensures) in
+    omega (arith, length-take-le (is-row .count .given .0 .0) (at-read-row .read-row .last .1 .0) (r .1))
 
 returns-2 : tie.Need-returns-2
 returns-2 c =
@@ -41,10 +45,12 @@ returns-2 c =
 
 returns-3 : tie.Need-returns-3
 returns-3 c =
-    let at-copy = c .before .before in let at-if1 = at-copy .before .before .before in
-    let at-count = at-if1 .before .before in let at-read-row = at-count .before .before .before in
-    let r = rw (at-count .count .given .1) at (at-read-row .read-row .ensures) in
-    rw (at-copy .copy .ensures) (omega arith, all-read _ _ (at-read-row .read-row .last .1 .0) _ (r .1) (r .0) (at-if1 .if1 .left))
+    let at-copy = c .before .before in
+    let long-enough = at-copy .before .before .before in
+    let is-row = long-enough .before .before in
+    let at-read-row = is-row .before .before .before in
+    let r = rw (is-row .count .given .1) at (at-read-row .read-row .ensures) in
+    rw (at-copy .copy .ensures) (omega arith, all-read _ _ (at-read-row .read-row .last .1 .0) _ (r .1) (r .0) (long-enough .if1 .left))
 
 pub read-mail-spec : {M : Type 1} → statement M
 read-mail-spec =

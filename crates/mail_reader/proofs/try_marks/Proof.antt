@@ -7,8 +7,8 @@ use borrow.Author.Needs.{needs}
 use Rattle.mail_reader.proofs.try_marks.Statement.{statement}
 use Rattle.mail_reader.proofs.try_marks.Tie as tie
 
-abbrev to-change2 : tie.After-shared-slice-known3 → tie.After-change2
-to-change2 c = c .before .before .before .before .before .before .before .before
+abbrev changed : tie.After-shared-slice-known3 → tie.After-change2
+changed c = c .before .before .before .before .before .before .before .before
 
 slice-aggregate-common : tie.Need-slice-aggregate-common
 slice-aggregate-common c = let p = c .before .change2 in sym (length-take-le (p .result) (p .last .1 .1 .0) (p .ensures .1))
@@ -28,27 +28,29 @@ returns-2 c =
     (try-text-ends _ _ (a .text .now) (p .last .1 .1 .0) (p .result) (p .ensures) (c .if2 .taken))
 
 cast-t18 : tie.Need-cast-t18
-cast-t18 c = omega (arith, c .shared-slice-known3 .given (to-change2 c .change2 .result))
+cast-t18 c = omega (arith, c .shared-slice-known3 .given (changed c .change2 .result))
 
 add-t21 : tie.Need-add-t21
-add-t21 c = omega (arith, c .shared-slice-known3 .given (to-change2 c .change2 .result))
+add-t21 c = omega (arith, c .shared-slice-known3 .given (changed c .change2 .result))
 
 returns-3 : tie.Need-returns-3
 returns-3 c =
-    let at-if3 = c .before in let at-is-character = at-if3 .before in let at-if2 = at-is-character .before .before in
-    let at-if1 = at-if2 .before in let at-common = at-if1 .before in let at-change2 = at-common .before .before in
-    let start = at-change2 .before .before .before in
-    let a = start .args in
-    let p = at-change2 .change2 in
-    let e = at-common .common .ensures in
-    try-cell _ _ (a .text .now) (p .last .1 .1 .0) (p .result) (p .ensures) (rw e at (at-if1 .if1 .left)) (at-if2 .if2 .left)
-    (sym (at-is-character .is-character .ensures) ∙ at-if3 .if3 .taken)
+    let character = c .before in
+    let at-is-character = character .before in
+    let longer = at-is-character .before .before in
+    let shared = longer .before in
+    let e = shared .before .common .ensures in
+    let a = changed c .before .before .before .args in
+    let p = changed c .change2 in
+    try-cell _ _ (a .text .now) (p .last .1 .1 .0) (p .result) (p .ensures) (rw e at (shared .if1 .left)) (longer .if2 .left)
+    (sym (at-is-character .is-character .ensures) ∙ character .if3 .taken)
 
 returns-4 : tie.Need-returns-4
 returns-4 c =
-    let at-is-character = c .before in let at-common = at-is-character .before .before .before .before in
-    let at-change2 = at-common .before .before in let start = at-change2 .before .before .before in
-    let a = start .args in
+    let at-is-character = c .before in
+    let at-common = at-is-character .before .before .before .before in
+    let at-change2 = at-common .before .before in
+    let a = at-change2 .before .before .before .args in
     let p = at-change2 .change2 in
     rw (at-common .common .ensures)
     (try-no-character _ _ (a .text .now) (p .last .1 .1 .0) (p .result) (p .ensures) (sym (at-is-character .is-character .ensures) ∙ c .if3 .left))
