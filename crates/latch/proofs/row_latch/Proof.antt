@@ -19,11 +19,13 @@ returns-2 c =
 returns-3 : tie.Need-returns-3
 unfolding overRow overParts
 returns-3 c =
-    let at-side-latch3 = c .before in let at-side-latch2 = at-side-latch3 .before in
-    let at-overlay = at-side-latch2 .before .before in let at-if1 = at-overlay .before .before in
+    let within = c .before in
+    let left-of-it = within .before in
+    let overlaid = left-of-it .before .before in
+    let no-fill-flag = overlaid .before .before in
     row-ends _ _ _ _ _
-    (rw (at-if1 .if1 .left, at-overlay .overlay .given .1)
-    (c .side-latch4 .ensures ∙ rw (at-side-latch3 .side-latch3 .ensures, at-side-latch2 .side-latch2 .ensures, whole-all)))
+    (rw (no-fill-flag .if1 .left, overlaid .overlay .given .1)
+    (c .side-latch4 .ensures ∙ rw (within .side-latch3 .ensures, left-of-it .side-latch2 .ensures, whole-all)))
 
 pub row-latch-spec : {M : Type 1} → statement M
 row-latch-spec =

@@ -27,18 +27,20 @@ loop-holds c = (omega arith, omega arith, rw segments-all)
 
 add-at : tie.Need-add-at Inv-loop μ-loop
 add-at c =
-    let at-segment-at = c .before .before .before .before in let back = at-segment-at .before .before in
-    let y = back in
+    let at-segment-at = c .before .before .before .before in
+    let at-loop = at-segment-at .before .before in
     let g = at-segment-at .segment-at in
-    omega (arith, width-byte (y .before .before .before .args .settings .hidden) (g .result) (g .ok .1 .1 .1 .1 .0 .1) (g .ok .1 .1 .1 .1 .1 .0 .1))
+    omega (arith, width-byte (at-loop .before .before .before .args .settings .hidden) (g .result) (g .ok .1 .1 .1 .1 .0 .1) (g .ok .1 .1 .1 .1 .1 .0 .1))
 
 loop-again : tie.Need-loop-again Inv-loop μ-loop
 loop-again c =
-    let at-chosen-latch = c .before in let at-on-side = at-chosen-latch .before in let at-width = at-on-side .before in
-    let at-segment-at = at-width .before in let back = at-segment-at .before .before in
-    let y = back in
-    let a = y .before .before .before .args in
-    let l = y .loop in
+    let at-chosen-latch = c .before in
+    let at-on-side = at-chosen-latch .before in
+    let at-width = at-on-side .before in
+    let at-segment-at = at-width .before in
+    let at-loop = at-segment-at .before .before in
+    let a = at-loop .before .before .before .args in
+    let l = at-loop .loop in
     let g = at-segment-at .segment-at in (
       omega arith,
       omega (arith, width-byte (a .settings .hidden) (g .result) (g .ok .1 .1 .1 .1 .0 .1) (g .ok .1 .1 .1 .1 .1 .0 .1)),

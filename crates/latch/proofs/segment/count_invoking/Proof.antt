@@ -21,9 +21,11 @@ loop-holds c = (omega arith, omega arith, rw (add-zero, sub-zero, zero-add))
 
 loop-again : tie.Need-loop-again Inv-loop μ-loop
 loop-again c =
-    let at-low-byte = c .before in let at-takes = at-low-byte .before in let at-high-byte = at-takes .before in
-    let at-loop = at-high-byte .before .before .before in let start = at-loop .before .before in
-    let a = start .args in
+    let at-low-byte = c .before in
+    let at-takes = at-low-byte .before in
+    let at-high-byte = at-takes .before in
+    let at-loop = at-high-byte .before .before .before in
+    let a = at-loop .before .before .args in
     let l = at-loop .loop in
     let next : a .at + l .i + 1 ≡ a .at + (l .i + 1) = omega arith in
     let more = rw next at (invoking-more (a .flag) (a .mem .now) (a .at + l .i) (a .n - 2 * l .i) (a .n - 2 * (l .i + 1)) (omega arith)) in (
@@ -34,9 +36,9 @@ loop-again c =
 
 returns : tie.Need-returns Inv-loop μ-loop
 returns c =
-    let at-high-byte2 = c .before in let at-loop = at-high-byte2 .before .before .before .before in
-    let start = at-loop .before .before in
-    let a = start .args in
+    let at-high-byte2 = c .before in
+    let at-loop = at-high-byte2 .before .before .before .before in
+    let a = at-loop .before .before .args in
     let l = at-loop .loop in
     let half : l .i ≡ a .n / 2 = omega arith in
     rw (c .takes3 .ensures .0, at-high-byte2 .high-byte2 .ensures, ← half) (omega (arith, invoking-one (a .flag) (a .mem .now) (a .at + l .i) (a .n - 2 * l .i) (omega arith)))

@@ -16,15 +16,17 @@ abbrev μ-loop : tie.MeasureT-loop
 
 returns : tie.Need-returns Inv-loop μ-loop
 returns c =
-    let at-bit-15 = c .before in let at-loop-test = at-bit-15 .before .before in let at-loop = at-loop-test .before in
-    let l = at-loop .loop in
-    sym (l .inv .1 ∙ latched-turn _ _ (l .left) (at-loop-test .loop-test .taken) ∙ rw (← at-bit-15 .bit-15 .ensures, c .if1 .taken))
+    let at-bit-15 = c .before in
+    let in-turn = at-bit-15 .before .before in
+    let l = in-turn .before .loop in
+    sym (l .inv .1 ∙ latched-turn _ _ (l .left) (in-turn .loop-test .taken) ∙ rw (← at-bit-15 .bit-15 .ensures, c .if1 .taken))
 
 loop-again : tie.Need-loop-again Inv-loop μ-loop
 loop-again c =
-    let at-bit-15 = c .before in let at-loop-test = at-bit-15 .before .before in let at-loop = at-loop-test .before in
-    let l = at-loop .loop in
-    (omega arith, l .inv .1 ∙ latched-turn _ _ (l .left) (at-loop-test .loop-test .taken) ∙ rw (← at-bit-15 .bit-15 .ensures, c .if1 .left))
+    let at-bit-15 = c .before in
+    let in-turn = at-bit-15 .before .before in
+    let l = in-turn .before .loop in
+    (omega arith, l .inv .1 ∙ latched-turn _ _ (l .left) (in-turn .loop-test .taken) ∙ rw (← at-bit-15 .bit-15 .ensures, c .if1 .left))
 
 returns-2 : tie.Need-returns-2 Inv-loop μ-loop
 returns-2 c =
