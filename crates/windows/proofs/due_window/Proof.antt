@@ -10,9 +10,9 @@ use Rattle.windows.proofs.due_window.Tie as tie
 
 window-at-requires : tie.Need-window-at-requires
 window-at-requires c κs =
-    let at-in-hand = c .before .before .before .before .before .before in
-    let start = at-in-hand .before .before .before in
-    omega (arith, rw (at-in-hand .in-hand .given .1) at (start .pre))
+    let present = c .before .before .before .before .before .before in
+    let start = present .before .before .before in
+    omega (arith, rw (present .in-hand .given .1) at (start .pre))
 
 returns : tie.Need-returns
 unfolding dueWindow

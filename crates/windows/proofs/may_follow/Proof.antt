@@ -1,3 +1,4 @@
+-- The two tests are the rule's: the window is in order, and its first row is the least one or a later one.
 use borrow.Author.Needs.{needs}
 use Rattle.windows.proofs.may_follow.Statement.{statement}
 use Rattle.windows.proofs.may_follow.Tie as tie

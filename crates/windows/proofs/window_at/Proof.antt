@@ -28,23 +28,32 @@ returns c = rw (eq-eqb _ 0 (c .if1 .taken)) (sym (run-done _ _ _))
 returns-2 : tie.Need-returns-2
 unfolding windowAt
 returns-2 c =
-    let r = c .before .before .before .before .before .before .before .before .before .read-words in
+    let at-window-of = c .before .before .before in
+    let at-low-byte = at-window-of .before .before in
+    let whole = at-low-byte .before in
+    let at-read-words = whole .before .before .before in
+    let linked = at-read-words .before .before in
+    let start = linked .before .before .before in
+    let r = at-read-words .read-words in
     let t = sym (c .before .may-follow .ensures) ∙ c .if2 .taken in
-    let number = byte _ _ (c .before .before .before .window-of .result .block) (c .before .before .before .before .before .before .before .before .before .before .before .before .before .before .pre) t (omega arith) in
-    rw (ne-eqb _ 0 (c .before .before .before .before .before .before .before .before .before .before .before .if1 .left), c .before .before .before .window-of .ensures, c .before .before .before .before .before .low-byte .ensures, number)
-    (sym (step-given 0 _ _ _ (run-as _ _ _ _ ∙ read-whole _ _ 6 _ _ _ (r .ensures) (c .before .before .before .before .before .before .enum-told .given .1) (r .kept .1 .1 .1 .0))
-    ∙ check-of-passed _ _ _ _ _ _ (rw (c .before .before .before .window-of .ensures, c .before .before .before .before .before .low-byte .ensures, number) at t) ∙ run-done _ _ _))
+    let number = byte _ _ (at-window-of .window-of .result .block) (start .pre) t (omega (arith, at-window-of .window-of .ok)) in
+    rw (ne-eqb _ 0 (linked .if1 .left), at-window-of .window-of .ensures, at-low-byte .low-byte .ensures, number)
+    (sym (step-given 0 _ _ _ (run-as _ _ _ _ ∙ read-whole _ _ 6 _ _ _ (r .ensures) (whole .enum-told .given .1) (r .kept .1 .1 .1 .0))
+    ∙ check-of-passed _ _ _ _ _ _ (rw (at-window-of .window-of .ensures, at-low-byte .low-byte .ensures, number) at t) ∙ run-done _ _ _))
 
 returns-3 : tie.Need-returns-3
 unfolding windowAt windowOf
 returns-3 c =
-    let at-if2 = c .before in let at-may-follow = at-if2 .before in let at-window-of = at-may-follow .before .before in
-    let at-enum-told = at-window-of .before .before .before in
-    let at-read-words = at-enum-told .before .before .before in let at-if1 = at-read-words .before .before in
+    let fails = c .before in
+    let at-may-follow = fails .before in
+    let at-window-of = at-may-follow .before .before in
+    let whole = at-window-of .before .before .before in
+    let at-read-words = whole .before .before .before in
+    let linked = at-read-words .before .before in
     let r = at-read-words .read-words in
-    rw (c .blame .ensures, ne-eqb _ 0 (at-if1 .if1 .left))
-    (sym (step-given 0 _ _ _ (run-as _ _ _ _ ∙ read-whole _ _ 6 _ _ _ (r .ensures) (at-enum-told .enum-told .given .1) (r .kept .1 .1 .1 .0))
-    ∙ check-of-failed _ _ _ _ _ _ (sym (rw (at-window-of .window-of .ensures) at (at-may-follow .may-follow .ensures)) ∙ at-if2 .if2 .left)))
+    rw (c .blame .ensures, ne-eqb _ 0 (linked .if1 .left))
+    (sym (step-given 0 _ _ _ (run-as _ _ _ _ ∙ read-whole _ _ 6 _ _ _ (r .ensures) (whole .enum-told .given .1) (r .kept .1 .1 .1 .0))
+    ∙ check-of-failed _ _ _ _ _ _ (sym (rw (at-window-of .window-of .ensures) at (at-may-follow .may-follow .ensures)) ∙ fails .if2 .left)))
 
 returns-4 : tie.Need-returns-4
 unfolding windowAt
