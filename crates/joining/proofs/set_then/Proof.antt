@@ -1,3 +1,4 @@
+-- Each part has its line of `setThen`.
 use borrow.Author.Needs.{needs}
 use Rattle.joining.proofs.set_then.Statement.{statement}
 use Rattle.joining.proofs.set_then.Tie as tie

@@ -1,3 +1,4 @@
+-- The part is the one for the latch's ignore, and each part has its line of `apply`.
 use borrow.Author.Needs.{needs}
 use Rattle.joining.proofs.Effect.apply.Statement.{statement}
 use Rattle.joining.proofs.Effect.apply.Tie as tie

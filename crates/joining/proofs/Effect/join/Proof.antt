@@ -1,3 +1,4 @@
+-- The two parts are joined each by itself.
 use borrow.Author.Needs.{needs}
 use Rattle.joining.proofs.Effect.join.Statement.{statement}
 use Rattle.joining.proofs.Effect.join.Tie as tie
