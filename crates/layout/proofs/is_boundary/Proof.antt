@@ -1,3 +1,4 @@
+-- A place is a boundary of all segments where it is one of those from i on, which begin at `at`; a width is a byte.
 use mathlib.Core.Path.{_≡_, sym, _∙_}
 use Prim.Native.Nat.{_≤_, _-_, _*_}
 use native.Mathlib.Omega.{arith}

@@ -1,3 +1,4 @@
+-- The test without the sum is the rule's where the segment begins by the window's end; past it the window covers nothing.
 use lib.Dec.{leb}
 use Rattle.layout.specs.Layout.{covered}
 use Rattle.memory.proofs.RunLaws.{ends-by}

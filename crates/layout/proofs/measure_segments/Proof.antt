@@ -1,3 +1,4 @@
+-- Check 9 and the sum so far, with those of the segments from i on, are those of all; a width is a byte, so no sum is too large.
 use mathlib.Core.Path.{_≡_, sym, _∙_}
 use mathlib.Core.Bool.{_&&_, and-assoc, and-true}
 use Prim.Native.Nat.{_≤_, _+_, _-_, _*_}

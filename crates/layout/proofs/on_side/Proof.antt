@@ -1,3 +1,4 @@
+-- Each side has its line of `onSide`.
 use Rattle.layout.specs.Layout.{onSide}
 use borrow.Author.Needs.{needs}
 use Rattle.layout.proofs.on_side.Statement.{statement}
@@ -5,7 +6,7 @@ use Rattle.layout.proofs.on_side.Tie as tie
 
 returns : tie.Need-returns
 unfolding onSide
-returns c = search needs
+returns c = rw (c .enum-told .given .1)
 
 returns-2 : tie.Need-returns-2
 unfolding onSide

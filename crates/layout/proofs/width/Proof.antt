@@ -1,3 +1,4 @@
+-- The code's test is the rule's: a hidden segment has its own length.
 use Rattle.layout.specs.Layout.{width}
 use borrow.Author.Needs.{needs}
 use Rattle.layout.proofs.width.Statement.{statement}

@@ -1,3 +1,4 @@
+-- Both edges are judged by `is_boundary`; without a window there is none.
 use Rattle.layout.specs.Layout.{edgesFit}
 use borrow.Author.Needs.{needs}
 use Rattle.layout.proofs.overlay.edges_fit.Statement.{statement}
@@ -5,7 +6,7 @@ use Rattle.layout.proofs.overlay.edges_fit.Tie as tie
 
 returns : tie.Need-returns
 unfolding edgesFit
-returns c ws = search needs
+returns c ws = rw (c .enum-told .given .1)
 
 returns-2 : tie.Need-returns-2
 unfolding edgesFit

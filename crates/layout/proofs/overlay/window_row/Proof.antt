@@ -7,31 +7,36 @@ use Rattle.layout.proofs.overlay.window_row.Tie as tie
 
 returns : tie.Need-returns
 returns c =
-    let at-if1 = c .before in let at-measure-segments = at-if1 .before .before in
-    let at-b = at-measure-segments .before .before .before .before in let at-window-row-block = at-b .before .before in
-    let b = sym (rw (at-b .b .given .1) at (at-window-row-block .window-row-block .ensures)) in
+    let unfit = c .before in
+    let measured = unfit .before .before in
+    let read = measured .before .before .before .before in
+    let b = sym (rw (read .b .given .1) at (read .before .before .window-row-block .ensures)) in
     rw (c .blame .ensures)
-    (sym (window-checks _ _ _ b ∙ segments-unfit _ _ _ _ _ _ _ _ _ _ (at-measure-segments .measure-segments .ensures) (at-if1 .if1 .taken)))
+    (sym (window-checks _ _ _ b ∙ segments-unfit _ _ _ _ _ _ _ _ _ _ (measured .measure-segments .ensures) (unfit .if1 .taken)))
 
 returns-2 : tie.Need-returns-2
 returns-2 c =
-    let at-if2 = c .before in let at-columns = at-if2 .before .before in let at-if1 = at-columns .before .before in
-    let at-measure-segments = at-if1 .before .before in
-    let at-b = at-measure-segments .before .before .before .before in let at-window-row-block = at-b .before .before in
-    let b = sym (rw (at-b .b .given .1) at (at-window-row-block .window-row-block .ensures)) in
-    let l = rw (at-columns .columns .ensures) at (at-if2 .if2 .taken) in
+    let wide = c .before in
+    let at-columns = wide .before .before in
+    let fit = at-columns .before .before in
+    let measured = fit .before .before in
+    let read = measured .before .before .before .before in
+    let b = sym (rw (read .b .given .1) at (read .before .before .window-row-block .ensures)) in
+    let l = rw (at-columns .columns .ensures) at (wide .if2 .taken) in
     rw (c .fault-of .ensures)
-    (sym (window-checks _ _ _ b ∙ segments-wide _ _ _ _ _ _ _ _ _ _ (at-measure-segments .measure-segments .ensures) (at-if1 .if1 .left) l))
+    (sym (window-checks _ _ _ b ∙ segments-wide _ _ _ _ _ _ _ _ _ _ (measured .measure-segments .ensures) (fit .if1 .left) l))
 
 returns-3 : tie.Need-returns-3
 returns-3 c =
-    let at-if2 = c .before .before .before .before in let at-columns = at-if2 .before .before in
-    let at-if1 = at-columns .before .before in let at-measure-segments = at-if1 .before .before in
-    let at-b = at-measure-segments .before .before .before .before in let at-window-row-block = at-b .before .before in
-    let b = sym (rw (at-b .b .given .1) at (at-window-row-block .window-row-block .ensures)) in
-    let l = rw (at-columns .columns .ensures) at (at-if2 .if2 .left) in
+    let narrow = c .before .before .before .before in
+    let at-columns = narrow .before .before in
+    let fit = at-columns .before .before in
+    let measured = fit .before .before in
+    let read = measured .before .before .before .before in
+    let b = sym (rw (read .b .given .1) at (read .before .before .window-row-block .ensures)) in
+    let l = rw (at-columns .columns .ensures) at (narrow .if2 .left) in
     rw (c .with-rows .ensures)
-    (sym (window-checks _ _ _ b ∙ segments-pass _ _ _ _ _ _ _ _ _ _ (at-measure-segments .measure-segments .ensures) (at-if1 .if1 .left) l))
+    (sym (window-checks _ _ _ b ∙ segments-pass _ _ _ _ _ _ _ _ _ _ (measured .measure-segments .ensures) (fit .if1 .left) l))
 
 returns-4 : tie.Need-returns-4
 returns-4 c = sym (window-refused _ _ _ (sym (rw (c .before .fault .given .1) at (c .before .before .before .window-row-block .ensures))))
