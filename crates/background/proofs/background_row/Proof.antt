@@ -8,29 +8,30 @@ use Rattle.background.proofs.background_row.Tie as tie
 
 returns : tie.Need-returns
 returns c =
-    let at-if1 = c .before in let at-measure-segments = at-if1 .before .before in
-    let at-block = at-measure-segments .before .before .before .before in
-    let at-background-block = at-block .before .before in
-    let g = sym (rw (at-block .block .given .1) at (at-background-block .background-block .ensures)) in
+    let unfit = c .before in
+    let measured = unfit .before .before in
+    let read = measured .before .before .before .before in
+    let g = sym (rw (read .block .given .1) at (read .before .before .background-block .ensures)) in
     rw (c .blame .ensures)
-    (sym (row-checks _ _ _ g ∙ segments-unfit _ _ _ _ _ _ _ _ _ _ (at-measure-segments .measure-segments .ensures) (at-if1 .if1 .taken)))
+    (sym (row-checks _ _ _ g ∙ segments-unfit _ _ _ _ _ _ _ _ _ _ (measured .measure-segments .ensures) (unfit .if1 .taken)))
 
 returns-2 : tie.Need-returns-2
 returns-2 c =
-    let at-if2 = c .before in let at-if1 = at-if2 .before .before in let at-measure-segments = at-if1 .before .before in
-    let at-block = at-measure-segments .before .before .before .before in
-    let at-background-block = at-block .before .before in
-    let g = sym (rw (at-block .block .given .1) at (at-background-block .background-block .ensures)) in
+    let wide = c .before in
+    let fit = wide .before .before in
+    let measured = fit .before .before in
+    let read = measured .before .before .before .before in
+    let g = sym (rw (read .block .given .1) at (read .before .before .background-block .ensures)) in
     rw (c .blame2 .ensures)
-    (sym (row-checks _ _ _ g ∙ segments-wide _ _ _ _ _ _ _ _ _ _ (at-measure-segments .measure-segments .ensures) (at-if1 .if1 .left) (at-if2 .if2 .taken)))
+    (sym (row-checks _ _ _ g ∙ segments-wide _ _ _ _ _ _ _ _ _ _ (measured .measure-segments .ensures) (fit .if1 .left) (wide .if2 .taken)))
 
 returns-3 : tie.Need-returns-3
 returns-3 c =
-    let at-if1 = c .before .before in let at-measure-segments = at-if1 .before .before in
-    let at-block = at-measure-segments .before .before .before .before in
-    let at-background-block = at-block .before .before in
-    let g = sym (rw (at-block .block .given .1) at (at-background-block .background-block .ensures)) in
-    sym (row-checks _ _ _ g ∙ segments-pass _ _ _ _ _ _ _ _ _ _ (at-measure-segments .measure-segments .ensures) (at-if1 .if1 .left) (c .if2 .left))
+    let fit = c .before .before in
+    let measured = fit .before .before in
+    let read = measured .before .before .before .before in
+    let g = sym (rw (read .block .given .1) at (read .before .before .background-block .ensures)) in
+    sym (row-checks _ _ _ g ∙ segments-pass _ _ _ _ _ _ _ _ _ _ (measured .measure-segments .ensures) (fit .if1 .left) (c .if2 .left))
 
 returns-4 : tie.Need-returns-4
 returns-4 c = sym (row-refused _ _ _ (sym (rw (c .before .fault .given .1) at (c .before .before .before .background-block .ensures))))
