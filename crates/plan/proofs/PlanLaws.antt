@@ -59,7 +59,11 @@ module _ (m : List ℕ) (σ : Settings) (f : Fields) where
         pub plan-words : Words m → inRange f ≡ true → i + j + k ≤ 167
         plan-words b h =
             let due = reads-given 0 m b (due-reads (σ .linear) (f .row) (f .window) (placed f h)) e in
-            omega (arith, reads-given 0 m b (background-reads σ f) d .0, reads-given 0 m b (overlaid-reads σ (f .row) w (due .1 .0)) u .0)
+            omega (
+              arith,
+              reads-given 0 m b (background-reads σ f) d .0,
+              reads-given 0 m b (overlaid-reads σ (f .row) w (due .1 .0)) u .0,
+            )
 
 -- checks 2 and 17, and checks 3 and 4
 module _ (m : List ℕ) (σ : Settings) (f : Fields) where

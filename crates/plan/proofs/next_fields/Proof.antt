@@ -1,3 +1,4 @@
+-- Each field is the rule's; the lines left are fewer by those taken.
 use Rattle.plan.specs.Plan.{nextFields}
 use borrow.Author.Needs.{needs}
 use Rattle.plan.proofs.next_fields.Statement.{statement}

@@ -8,19 +8,33 @@ use borrow.Author.Needs.{needs}
 use Rattle.plan.proofs.plan_blocks.Statement.{statement}
 use Rattle.plan.proofs.plan_blocks.Tie as tie
 
+-- where the window's row is read, the background before it, the window due before that, and the function's start
+abbrev over : tie.After-edges-fit → tie.After-overlay
+over c = c .before .before .before .before
+
+abbrev back : tie.After-overlay → tie.After-block
+back c = c .before .before .before .before .before
+
+abbrev due : tie.After-block → tie.After-window
+due c = c .before .before .before .before .before
+
+abbrev start : tie.After-window → tie.Start
+start c = c .before .before .before .before
+
 due-window-requires : tie.Need-due-window-requires
 due-window-requires c κs = numbered _ (c .before .pre .0)
 
 next-fields-requires : tie.Need-next-fields-requires
-next-fields-requires c κs = c .before .before .before .before .before .before .before .before .before .before .before .before .before .before .before .before .before .before .before .before .pre .1
+next-fields-requires c κs = start (due (back (over (c .before .before)))) .pre .1
 
 -- the words of the window block, of the row block with its redefinition, and of the window row block
 few-words : (c : tie.After-struct-known)
-    → c .before .before .before .before .before .before .before .before .before .before .before .before .before .before .before .before .before .before .before .window .given .0 .1 .0
-    + c .before .before .before .before .before .before .before .before .before .before .before .before .before .before .block .given .0 .0 .words
-    + c .before .before .before .before .before .before .before .before .before .overlay .given .0 .1 .1 .0 ≤ 167
+    → due (back (over (c .before .before .before .before .before))) .window .given .0 .1 .0
+    + back (over (c .before .before .before .before .before)) .block .given .0 .0 .words
+    + over (c .before .before .before .before .before) .overlay .given .0 .1 .1 .0 ≤ 167
 few-words c =
-    let x = c .before .before .before .before .before .before .before .before .before in
+    let at-edges-fit = c .before .before .before .before .before in
+    let x = at-edges-fit .before .before .before .before in
     let y = x .before .before .before .before .before in
     let z = y .before .before .before .before .before in
     let o = sym (rw (x .overlay .given .1) at (x .before .before .overlay-row .ensures)) in
@@ -31,27 +45,26 @@ few-words c =
 
 returns : tie.Need-returns
 returns c =
-    let at-lines-taken = c .before in let at-next-fields = at-lines-taken .before in
-    let at-if1 = at-next-fields .before .before in let at-edges-fit = at-if1 .before in
-    let back = at-edges-fit .before .before .before .before in
-    let x = back in
+    let fit = c .before .before .before .before in
+    let x = fit .before .before .before .before .before in
     let y = x .before .before .before .before .before in
     let z = y .before .before .before .before .before in
     let o = sym (rw (x .overlay .given .1) at (x .before .before .overlay-row .ensures)) in
     let g = sym (rw (y .block .given .1) at (y .before .before .background-row .ensures)) in
     let w = sym (rw (z .window .given .1) at (z .before .before .due-window .ensures)) in
-    rw (at-lines-taken .lines-taken .ensures, at-next-fields .next-fields .ensures)
-    (sym (edges-on _ _ _ w g o (sym (at-edges-fit .edges-fit .ensures _) ∙ at-if1 .if1 .taken)))
+    rw (c .before .lines-taken .ensures, c .before .before .next-fields .ensures)
+    (sym (edges-on _ _ _ w g o (sym (fit .before .edges-fit .ensures _) ∙ fit .if1 .taken)))
 
 returns-2 : tie.Need-returns-2
 returns-2 c =
-    let x = c .before .before .before .before .before .before in
+    let unfit = c .before in
+    let x = unfit .before .before .before .before .before in
     let y = x .before .before .before .before .before in
     let z = y .before .before .before .before .before in
     let o = sym (rw (x .overlay .given .1) at (x .before .before .overlay-row .ensures)) in
     let g = sym (rw (y .block .given .1) at (y .before .before .background-row .ensures)) in
     let w = sym (rw (z .window .given .1) at (z .before .before .due-window .ensures)) in
-    rw (c .refused .ensures) (sym (edges-off _ _ _ w g o (sym (c .before .before .edges-fit .ensures _) ∙ c .before .if1 .left)))
+    rw (c .refused .ensures) (sym (edges-off _ _ _ w g o (sym (unfit .before .edges-fit .ensures _) ∙ unfit .if1 .left)))
 
 returns-3 : tie.Need-returns-3
 returns-3 c =
