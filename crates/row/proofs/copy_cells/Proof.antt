@@ -1,3 +1,4 @@
+-- The cells before i are copied, and both slices have 132.
 use mathlib.Core.Path.{_≡_}
 use Prim.Native.Nat.{_≤_, _-_}
 use native.Mathlib.Omega.{arith}

@@ -15,29 +15,33 @@ returns c = rw (c .refusal-of .ensures, c .before .fault-of .ensures, ne-eqb _ 1
 
 draw-planned-requires : tie.Need-draw-planned-requires
 draw-planned-requires c κs =
-    let at-p = c .before .before .before .before in let at-plan-row = at-p .before .before in
-    let at-if1 = at-plan-row .before .before .before in
-    (at-if1 .if1 .left, rw (at-p .p .given .1) at (at-plan-row .plan-row .ensures))
+    let planned = c .before .before .before .before in
+    let at-plan-row = planned .before .before in
+    let sized = at-plan-row .before .before .before in
+    (sized .if1 .left, rw (planned .p .given .1) at (at-plan-row .plan-row .ensures))
 
 returns-2 : tie.Need-returns-2
 unfolding rowCall
 returns-2 c =
-    let at-fault = c .before .before in let at-plan-row = at-fault .before .before in
-    let at-if1 = at-plan-row .before .before .before in let start = at-if1 .before .before .before .before in
+    let refused = c .before .before in
+    let at-plan-row = refused .before .before in
+    let sized = at-plan-row .before .before .before in
+    let start = sized .before .before .before .before in
     let a = start .args in (
       lit< tt,
-      rw (c .refusal-of2 .ensures, eq-eqb (length (a .buffer .now)) 132 (at-if1 .if1 .left))
-          (ap (answered (a .settings) (a .state .fields) (a .buffer .now)) (plan-refused (a .settings) (a .mem .now) (a .state) (rw (at-fault .fault .given .1) at (at-plan-row .plan-row .ensures)))),
+      rw (c .refusal-of2 .ensures, eq-eqb (length (a .buffer .now)) 132 (sized .if1 .left))
+          (ap (answered (a .settings) (a .state .fields) (a .buffer .now)) (plan-refused (a .settings) (a .mem .now) (a .state) (rw (refused .fault .given .1) at (at-plan-row .plan-row .ensures)))),
     )
 
 returns-3 : tie.Need-returns-3
 unfolding rowCall
 returns-3 c =
     let at-draw-planned = c .before .before in
-    let at-if1 = at-draw-planned .before .before .before .before .before .before .before .before .before .before in
-    let start = at-if1 .before .before .before .before in
+    let planned = at-draw-planned .before .before .before .before .before in
+    let sized = planned .before .before .before .before .before in
+    let start = sized .before .before .before .before in
     let d = at-draw-planned .draw-planned .ensures in
-    rw (eq-eqb (length (start .args .buffer .now)) 132 (at-if1 .if1 .left)) (d .0, d .1)
+    rw (eq-eqb (length (start .args .buffer .now)) 132 (sized .if1 .left)) (d .0, d .1)
 
 pub row-spec : {M : Type 1} → statement M
 row-spec =
