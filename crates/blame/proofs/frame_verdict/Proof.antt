@@ -13,30 +13,34 @@ returns c =
 
 returns-2 : tie.Need-returns-2
 returns-2 c =
-    let at-fault2 = c .before .before in let at-top-block = at-fault2 .before .before in
-    let at-enum-told = at-top-block .before .before in let at-check-settings = at-enum-told .before .before in
-    let x = settings-pass _ _ (at-check-settings .check-settings .ensures) 0 _ (at-enum-told .enum-told .given .1) in
-    let t = sym (rw (at-fault2 .fault2 .given .1) at (at-top-block .top-block .ensures)) in
+    let refused = c .before .before in
+    let at-top-block = refused .before .before in
+    let passed = at-top-block .before .before in
+    let x = settings-pass _ _ (passed .before .before .check-settings .ensures) 0 _ (passed .enum-told .given .1) in
+    let t = sym (rw (refused .fault2 .given .1) at (at-top-block .top-block .ensures)) in
     rw (c .refusal-of2 .ensures) (sym (main-refused _ _ _ (settings-good _ _ x ∙ t)))
 
 returns-3 : tie.Need-returns-3
 returns-3 c =
-    let at-refusal = c .before in let at-start = at-refusal .before .before in let at-enum-told2 = at-start .before in
-    let at-top-block = at-enum-told2 .before .before in let at-enum-told = at-top-block .before .before in
-    let at-check-settings = at-enum-told .before .before in
-    let x = settings-pass _ _ (at-check-settings .check-settings .ensures) 0 _ (at-enum-told .enum-told .given .1) in
-    let t = sym (rw (at-enum-told2 .enum-told2 .given .1) at (at-top-block .top-block .ensures)) in
-    sym (start-refused _ _ _ (settings-good _ _ x ∙ t) (rw (at-refusal .refusal .given .1) at (at-start .start .ensures)))
+    let at-start = c .before .before .before in
+    let read = at-start .before in
+    let at-top-block = read .before .before in
+    let passed = at-top-block .before .before in
+    let x = settings-pass _ _ (passed .before .before .check-settings .ensures) 0 _ (passed .enum-told .given .1) in
+    let t = sym (rw (read .enum-told2 .given .1) at (at-top-block .top-block .ensures)) in
+    sym (start-refused _ _ _ (settings-good _ _ x ∙ t) (rw (c .before .refusal .given .1) at (at-start .start .ensures)))
 
 returns-4 : tie.Need-returns-4
 returns-4 c =
-    let at-started = c .before .before .before in let at-start = at-started .before .before in
-    let at-enum-told2 = at-start .before in let at-top-block = at-enum-told2 .before .before in
-    let at-enum-told = at-top-block .before .before in let at-check-settings = at-enum-told .before .before in
-    let x = settings-pass _ _ (at-check-settings .check-settings .ensures) 0 _ (at-enum-told .enum-told .given .1) in
-    let t = sym (rw (at-enum-told2 .enum-told2 .given .1) at (at-top-block .top-block .ensures)) in
+    let accepted = c .before .before .before in
+    let at-start = accepted .before .before in
+    let read = at-start .before in
+    let at-top-block = read .before .before in
+    let passed = at-top-block .before .before in
+    let x = settings-pass _ _ (passed .before .before .check-settings .ensures) 0 _ (passed .enum-told .given .1) in
+    let t = sym (rw (read .enum-told2 .given .1) at (at-top-block .top-block .ensures)) in
     c .walk-rows .ensures
-    ∙ sym (start-given _ _ _ (settings-good _ _ x ∙ t) (rw (at-started .started .given .1) at (at-start .start .ensures)))
+    ∙ sym (start-given _ _ _ (settings-good _ _ x ∙ t) (rw (accepted .started .given .1) at (at-start .start .ensures)))
 
 pub frame-verdict-spec : {M : Type 1} → statement M
 frame-verdict-spec =

@@ -7,7 +7,7 @@ use Rattle.blame.proofs.leader.Tie as tie
 
 returns : tie.Need-returns
 unfolding leader
-returns c = search needs
+returns c = rw (c .enum-told .given .1)
 
 returns-2 : tie.Need-returns-2
 unfolding leader

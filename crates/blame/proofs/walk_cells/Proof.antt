@@ -22,25 +22,25 @@ draw-cells-requires c κs =
 
 returns : tie.Need-returns
 returns c =
-    let at-fault = c .before in let at-draw-cells = at-fault .before .before .before in
+    let refused = c .before in
+    let at-draw-cells = refused .before .before .before in
     let at-code-settings = at-draw-cells .before .before in
-    let back = at-code-settings .before .before .before .before in
-    let e = back in
-    let a = e .args in
+    let start = at-code-settings .before .before .before .before in
+    let a = start .args in
     ap walked
-    (planned-refused (a .settings) (a .mem .now) (a .state) (e .pre)
-    (finish-refused _ (rw (at-fault .fault .given .1, at-code-settings .code-settings .ensures) at (at-draw-cells .draw-cells .ensures))))
+    (planned-refused (a .settings) (a .mem .now) (a .state) (start .pre)
+    (finish-refused _ (rw (refused .fault .given .1, at-code-settings .code-settings .ensures) at (at-draw-cells .draw-cells .ensures))))
 
 returns-2 : tie.Need-returns-2
 returns-2 c =
-    let at-latch = c .before .before in let at-draw-cells = at-latch .before .before .before in
+    let drawn = c .before .before in
+    let at-draw-cells = drawn .before .before .before in
     let at-code-settings = at-draw-cells .before .before in
-    let back = at-code-settings .before .before .before .before in
-    let e = back in
-    let a = e .args in
-    let g = finish-given _ (rw (at-latch .latch .given .1, at-code-settings .code-settings .ensures) at (at-draw-cells .draw-cells .ensures)) in
+    let start = at-code-settings .before .before .before .before in
+    let a = start .args in
+    let g = finish-given _ (rw (drawn .latch .given .1, at-code-settings .code-settings .ensures) at (at-draw-cells .draw-cells .ensures)) in
     ap (λ (f : Finished). Next (stateOf (f .latch) (a .p .next))) (g .same)
-    ∙ ap walked (planned-drawn (a .settings) (a .mem .now) (a .state) (e .pre) (g .is))
+    ∙ ap walked (planned-drawn (a .settings) (a .mem .now) (a .state) (start .pre) (g .is))
 
 pub walk-cells-spec : {M : Type 1} → statement M
 walk-cells-spec =

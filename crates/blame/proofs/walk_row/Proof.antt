@@ -11,10 +11,10 @@ walk-cells-requires c κs = rw (c .before .before .before .p .given .1) at (c .b
 
 returns : tie.Need-returns
 returns c =
-    let at-fault = c .before in let at-plan-row = at-fault .before .before in
+    let at-plan-row = c .before .before .before in
     let start = at-plan-row .before .before .before .before .before in
     let a = start .args in
-    ap walked (plan-refused (a .settings) (a .mem .now) (a .state) (rw (at-fault .fault .given .1) at (at-plan-row .plan-row .ensures)))
+    ap walked (plan-refused (a .settings) (a .mem .now) (a .state) (rw (c .before .fault .given .1) at (at-plan-row .plan-row .ensures)))
 
 pub walk-row-spec : {M : Type 1} → statement M
 walk-row-spec =

@@ -15,46 +15,52 @@ Inv-loop settings mem led₀ state₀ led state = rows settings mem Register sta
 abbrev μ-loop : tie.MeasureT-loop
 μ-loop settings mem led₀ state₀ led state = state .fields .left
 
+-- after a row is walked: its turn, the function's start, and the words of memory
+abbrev turn : tie.After-walk-row Inv-loop μ-loop → tie.At-loop Inv-loop μ-loop
+turn c = c .before .before .before .before .before
+
+abbrev start : tie.At-loop Inv-loop μ-loop → tie.Start Inv-loop μ-loop
+start t = t .before .before
+
+words : (t : tie.At-loop Inv-loop μ-loop) → Words (start t .args .mem .now)
+words t i = t .before .shared-slice-known .given i .fits
+
 loop-less : tie.Need-loop-less Inv-loop μ-loop
 loop-less c =
-    let at-next = c .before in let at-walk-row = at-next .before .before in
-    let at-loop = at-walk-row .before .before .before .before .before in let at-shared-slice-known = at-loop .before in
-    let start = at-shared-slice-known .before in
-    let a = start .args in
-    let l = at-loop .loop in
-    let words : Words (a .mem .now) = λ i. at-shared-slice-known .shared-slice-known .given i .fits in
-    next-fewer (a .settings) (a .mem .now) words (l .led) (l .state) (rw (at-next .next .given .1) at (at-walk-row .walk-row .ensures))
+    let next = c .before in
+    let at-walk-row = next .before .before in
+    let t = turn at-walk-row in
+    let a = start t .args in
+    next-fewer (a .settings) (a .mem .now) (words t) (t .loop .led) (t .loop .state) (rw (next .next .given .1) at (at-walk-row .walk-row .ensures))
 
 loop-again : tie.Need-loop-again Inv-loop μ-loop
 loop-again c =
-    let at-next = c .before in let at-walk-row = at-next .before .before in let at-leader = at-walk-row .before in
-    let at-loop = at-leader .before .before .before .before in let at-shared-slice-known = at-loop .before in
-    let start = at-shared-slice-known .before in
-    let a = start .args in
-    let l = at-loop .loop in
-    let words : Words (a .mem .now) = λ i. at-shared-slice-known .shared-slice-known .given i .fits in
-    rw (at-leader .leader .ensures)
-    (l .inv ∙ next-rows (a .settings) (a .mem .now) words (l .led) (l .state) (λ e. omega arith)
-    (rw (at-next .next .given .1) at (at-walk-row .walk-row .ensures)))
+    let next = c .before in
+    let at-walk-row = next .before .before in
+    let t = turn at-walk-row in
+    let a = start t .args in
+    let l = t .loop in
+    rw (at-walk-row .before .leader .ensures)
+    (l .inv ∙ next-rows (a .settings) (a .mem .now) (words t) (l .led) (l .state) (λ e. omega arith)
+    (rw (next .next .given .1) at (at-walk-row .walk-row .ensures)))
 
 returns : tie.Need-returns Inv-loop μ-loop
 returns c =
-    let at-fault = c .before .before in let at-walk-row = at-fault .before .before in
-    let at-leader = at-walk-row .before in let at-loop = at-leader .before .before .before .before in
-    let at-shared-slice-known = at-loop .before in let start = at-shared-slice-known .before in
-    let a = start .args in
-    let l = at-loop .loop in
-    let words : Words (a .mem .now) = λ i. at-shared-slice-known .shared-slice-known .given i .fits in
-    rw (c .judged .ensures, at-leader .leader .ensures)
-    (sym (l .inv ∙ refused-rows (a .settings) (a .mem .now) words (l .led) (l .state) (λ e. omega arith)
-    (rw (at-fault .fault .given .1) at (at-walk-row .walk-row .ensures))))
+    let refused = c .before .before in
+    let at-walk-row = refused .before .before in
+    let t = turn at-walk-row in
+    let a = start t .args in
+    let l = t .loop in
+    rw (c .judged .ensures, at-walk-row .before .leader .ensures)
+    (sym (l .inv ∙ refused-rows (a .settings) (a .mem .now) (words t) (l .led) (l .state) (λ e. omega arith)
+    (rw (refused .fault .given .1) at (at-walk-row .walk-row .ensures))))
 
 returns-2 : tie.Need-returns-2 Inv-loop μ-loop
 returns-2 c =
-    let a = c .before .before .before .before .args in
-    let l = c .before .before .loop in
-    let words : Words (a .mem .now) = λ i. c .before .before .before .shared-slice-known .given i .fits in
-    sym (l .inv ∙ rows-end (a .settings) (a .mem .now) words (l .led) (l .state) (omega arith))
+    let t = c .before .before in
+    let a = start t .args in
+    let l = t .loop in
+    sym (l .inv ∙ rows-end (a .settings) (a .mem .now) (words t) (l .led) (l .state) (omega arith))
 
 pub walk-rows-spec : {M : Type 1} → statement M
 walk-rows-spec =
