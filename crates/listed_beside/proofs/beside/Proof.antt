@@ -9,30 +9,33 @@ use Rattle.listed_beside.proofs.beside.Tie as tie
 returns : tie.Need-returns
 unfolding besideListed
 returns c =
-    let at-row-below = c .before .before .before .before in let at-if1 = at-row-below .before .before .before in
-    let start = at-if1 .before .before .before .before in
-    let a = start .args in
-    let u = rw (toZ-ofZ w32 (a .shift) (start .fits .shift)) at (at-if1 .if1 .taken) in
+    let at-row-below = c .before .before .before .before in
+    let up = at-row-below .before .before .before in
+    let start = up .before .before .before .before in
+    let u = rw (toZ-ofZ w32 (start .args .shift) (start .fits .shift)) at (up .if1 .taken) in
     rw u (at-row-below .row-below .ensures)
 
 returns-2 : tie.Need-returns-2
 unfolding besideListed
 returns-2 c =
-    let at-row-above = c .before .before .before .before in let at-with-top = at-row-above .before .before .before in
-    let at-if2 = at-with-top .before in let at-if1 = at-if2 .before in
-    let start = at-if1 .before .before .before .before in
-    let a = start .args in
-    let u = rw (toZ-ofZ w32 (a .shift) (start .fits .shift)) at (at-if1 .if1 .left) in
-    let d = rw (toZ-ofZ w32 (a .shift) (start .fits .shift)) at (at-if2 .if2 .taken) in
+    let at-row-above = c .before .before .before .before in
+    let at-with-top = at-row-above .before .before .before in
+    let down = at-with-top .before in
+    let not-up = down .before in
+    let start = not-up .before .before .before .before in
+    let same = toZ-ofZ w32 (start .args .shift) (start .fits .shift) in
+    let u = rw same at (not-up .if1 .left) in
+    let d = rw same at (down .if2 .taken) in
     rw (u, d) (rw (at-with-top .with-top .ensures) at (at-row-above .row-above .ensures))
 
 returns-3 : tie.Need-returns-3
 unfolding besideListed
 returns-3 c =
-    let at-if1 = c .before in let start = at-if1 .before .before .before .before in
-    let a = start .args in
-    let u = rw (toZ-ofZ w32 (a .shift) (start .fits .shift)) at (at-if1 .if1 .left) in
-    let d = rw (toZ-ofZ w32 (a .shift) (start .fits .shift)) at (c .if2 .left) in
+    let not-up = c .before in
+    let start = not-up .before .before .before .before in
+    let same = toZ-ofZ w32 (start .args .shift) (start .fits .shift) in
+    let u = rw same at (not-up .if1 .left) in
+    let d = rw same at (c .if2 .left) in
     rw (u, d)
 
 pub beside-spec : {M : Type 1} → statement M

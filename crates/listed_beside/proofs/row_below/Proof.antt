@@ -10,15 +10,16 @@ tell-requires c κs = (omega arith, rw (c .before .row2 .given .1) at (c .before
 
 returns : tie.Need-returns
 returns c =
-    let at-refusal = c .before in let at-row = at-refusal .before .before .before .before .before .before in
+    let at-row = c .before .before .before .before .before .before .before in
     let at-with-one-line = at-row .before .before .before in
-    below _ _ _ _ _ (rw (at-refusal .refusal .given .1, at-with-one-line .with-one-line .ensures) at (at-row .row .ensures .1))
+    below _ _ _ _ _ (rw (c .before .refusal .given .1, at-with-one-line .with-one-line .ensures) at (at-row .row .ensures .1))
 
 returns-2 : tie.Need-returns-2
 returns-2 c =
-    let at-row2 = c .before .before in let at-row = at-row2 .before .before .before .before .before .before in
+    let accepted = c .before .before in
+    let at-row = accepted .before .before .before .before .before .before in
     let at-with-one-line = at-row .before .before .before in
-    rw (c .tell .ensures) (below _ _ _ _ _ (rw (at-row2 .row2 .given .1, at-with-one-line .with-one-line .ensures) at (at-row .row .ensures .1)))
+    rw (c .tell .ensures) (below _ _ _ _ _ (rw (accepted .row2 .given .1, at-with-one-line .with-one-line .ensures) at (at-row .row .ensures .1)))
 
 pub row-below-spec : {M : Type 1} → statement M
 row-below-spec =
