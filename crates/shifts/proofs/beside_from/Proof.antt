@@ -6,37 +6,42 @@ use borrow.Author.Needs.{needs}
 use Rattle.shifts.proofs.beside_from.Statement.{statement}
 use Rattle.shifts.proofs.beside_from.Tie as tie
 
-abbrev to-start : tie.After-slice-known3 → tie.Start
-to-start c = c .before .before .before .before .before
+-- from before the test of the shift
+abbrev start : tie.After-slice-known3 → tie.Start
+start c = c .before .before .before .before .before
 
 returns : tie.Need-returns
 unfolding besideFrom
 returns c =
     let at-next-beside = c .before .before .before .before .before .before in
-    let at-last = at-next-beside .before .before .before .before .before in let at-state-in = at-last .before .before in
-    let at-if1 = at-state-in .before in let start = to-start (at-if1 .before) in
-    let same = toZ-ofZ w32 (start .args .shift) (start .fits .shift) in
-    let u = rw same at (at-if1 .if1 .taken) in
+    let fit = at-next-beside .before .before .before .before .before in
+    let at-state-in = fit .before .before in
+    let up = at-state-in .before in
+    let s = start (up .before) in
+    let same = toZ-ofZ w32 (s .args .shift) (s .fits .shift) in
+    let u = rw same at (up .if1 .taken) in
     let e = rw same at (at-next-beside .next-beside .ensures) in
-    rw (u, ← at-state-in .state-in .ensures, at-last .last .given .1) e
+    rw (u, ← at-state-in .state-in .ensures, fit .last .given .1) e
 
 returns-2 : tie.Need-returns-2
 unfolding besideFrom
 returns-2 c =
-    let at-state-in = c .before .before in let at-if1 = at-state-in .before in
-    let start = to-start (at-if1 .before) in
-    let same = toZ-ofZ w32 (start .args .shift) (start .fits .shift) in
-    let u = rw same at (at-if1 .if1 .taken) in
+    let at-state-in = c .before .before in
+    let up = at-state-in .before in
+    let s = start (up .before) in
+    let same = toZ-ofZ w32 (s .args .shift) (s .fits .shift) in
+    let u = rw same at (up .if1 .taken) in
     rw (u, ← at-state-in .state-in .ensures, c .enum-told .given .1)
 
 returns-3 : tie.Need-returns-3
 unfolding besideFrom
 returns-3 c =
     let at-next-beside2 = c .before .before .before .before .before .before in
-    let at-no-state = at-next-beside2 .before .before .before .before in let at-if1 = at-no-state .before in
-    let start = to-start (at-if1 .before) in
-    let same = toZ-ofZ w32 (start .args .shift) (start .fits .shift) in
-    let u = rw same at (at-if1 .if1 .left) in
+    let at-no-state = at-next-beside2 .before .before .before .before in
+    let not-up = at-no-state .before in
+    let s = start (not-up .before) in
+    let same = toZ-ofZ w32 (s .args .shift) (s .fits .shift) in
+    let u = rw same at (not-up .if1 .left) in
     let e = rw (same, at-no-state .no-state .ensures) at (at-next-beside2 .next-beside2 .ensures) in
     rw u e
 

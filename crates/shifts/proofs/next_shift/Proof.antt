@@ -10,24 +10,29 @@ use Rattle.shifts.proofs.next_shift.Tie as tie
 
 returns : tie.Need-returns
 returns c =
-    let at-write-top = c .before .before in let at-write-scroll = at-write-top .before .before .before .before in
-    let at-s = at-write-scroll .before .before .before .before .before in let at-shift = at-s .before .before in
-    let at-signed-of = at-shift .before .before .before in let at-slice-known = at-signed-of .before .before .before in
-    let start = at-slice-known .before .before in
+    let at-write-scroll = c .before .before .before .before .before .before in
+    let accepted = at-write-scroll .before .before .before .before .before in
+    let at-shift = accepted .before .before in
+    let at-signed-of = at-shift .before .before .before in
+    let known = at-signed-of .before .before .before in
+    let start = known .before .before in
     let bits = getD (start .args .scroll .now) 0 0 in
-    let same = ap (toZ w32) (ofZ-toZ w32 bits (at-slice-known .slice-known .given 0)) in
+    let same = ap (toZ w32) (ofZ-toZ w32 bits (known .slice-known .given 0)) in
     let e = rw (at-signed-of .signed-of .ensures, same) at (at-shift .shift .ensures) in
-    rw (← e, at-s .s .given .1, at-write-scroll .write-scroll .ensures, at-write-top .write-top .ensures)
+    rw (← e, accepted .s .given .1, at-write-scroll .write-scroll .ensures, c .before .before .write-top .ensures)
 
 returns-2 : tie.Need-returns-2
 returns-2 c =
-    let at-refuse = c .before .before in let at-r = at-refuse .before .before .before in
-    let at-shift = at-r .before .before in let at-signed-of = at-shift .before .before .before in
-    let at-slice-known = at-signed-of .before .before .before in let start = at-slice-known .before .before in
+    let at-refuse = c .before .before in
+    let refused = at-refuse .before .before .before in
+    let at-shift = refused .before .before in
+    let at-signed-of = at-shift .before .before .before in
+    let known = at-signed-of .before .before .before in
+    let start = known .before .before in
     let bits = getD (start .args .scroll .now) 0 0 in
-    let same = ap (toZ w32) (ofZ-toZ w32 bits (at-slice-known .slice-known .given 0)) in
+    let same = ap (toZ w32) (ofZ-toZ w32 bits (known .slice-known .given 0)) in
     let e = rw (at-signed-of .signed-of .ensures, same) at (at-shift .shift .ensures) in
-    rw (← e, at-r .r .given .1, at-refuse .refuse .ensures .0, at-refuse .refuse .ensures .1)
+    rw (← e, refused .r .given .1, at-refuse .refuse .ensures .0, at-refuse .refuse .ensures .1)
 
 pub next-shift-spec : {M : Type 1} → statement M
 next-shift-spec =

@@ -6,7 +6,7 @@ use Rattle.shifts.proofs.write_beside.Tie as tie
 
 returns : tie.Need-returns
 unfolding besideNumbers
-returns c = search needs
+returns c = c .before .before .write .ensures
 
 pub write-beside-spec : {M : Type 1} → statement M
 write-beside-spec =

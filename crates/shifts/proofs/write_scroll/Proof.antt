@@ -7,10 +7,11 @@ use Rattle.shifts.proofs.write_scroll.Tie as tie
 
 returns : tie.Need-returns
 returns c =
-    let at-write = c .before .before in let at-bits-of = at-write .before .before .before in
-    let at-struct-told = at-bits-of .before in let start = at-struct-told .before .before in
-    let same = toZ-ofZ w32 (start .args .s .shift) (record { sfits = at-struct-told .struct-told .given .0 .1 }) in
-    rw (at-write .write .ensures, at-bits-of .bits-of .ensures, same)
+    let at-bits-of = c .before .before .before .before .before in
+    let told = at-bits-of .before in
+    let start = told .before .before in
+    let same = toZ-ofZ w32 (start .args .s .shift) (record { sfits = told .struct-told .given .0 .1 }) in
+    rw (c .before .before .write .ensures, at-bits-of .bits-of .ensures, same)
 
 pub write-scroll-spec : {M : Type 1} → statement M
 write-scroll-spec =
