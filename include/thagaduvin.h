@@ -1,5 +1,10 @@
 /* Rows of an Am8052 or Z8052 screen: the calls of a console, over slices that it lends them.
  *
+ * Structs. A slice of numbers at fixed places has a struct of the same layout beside its places, with their names as fields,
+ * and each call a form over these structs, its name with _of, at the end of this file: no count and no place is written by
+ * hand. Names of calls are not taken: an effect is a struct thagaduvin_effects, a row's answer a struct
+ * thagaduvin_row_answer.
+ *
  * Slices. A slice is a pointer and its count of elements, one argument after the other. No pointer is null, also where the
  * count is 0; each is aligned as its elements ask. A slice that a call writes (not const) overlaps no other slice of that
  * call. Memory has any count of words, numbers of the machine: the word at the byte address a is memory[a / 2].
@@ -95,6 +100,14 @@ enum {
     THAGADUVIN_SETTINGS    /* 18 numbers */
 };
 
+struct thagaduvin_settings {
+    uint32_t linear, hidden, interlace, cursor, flag;
+    uint32_t top_first, top_second, tow_first, tow_second;
+    uint32_t vsw, vsd, val, vtot;
+    uint32_t hsync, hsd, htc, htd;
+    uint32_t edition;
+};
+
 /* A state. An accepted start or row writes all of it; it is handed to the next row as it stands. A number past its range is
  * refusal 3, with the row as it stands, but 255 where that is said. */
 enum {
@@ -126,6 +139,16 @@ enum {
     THAGADUVIN_STATE        /* 23 numbers */
 };
 
+struct thagaduvin_state {
+    uint32_t latch, row, left;
+    uint32_t cursor_x, cursor_y, fill_code, fill_flag;
+    uint32_t scan_lines, attributes, curs, cure;
+    uint32_t row_block;
+    uint32_t window, window_top, window_bottom, window_left, window_right;
+    uint32_t window_row_block, window_block, window_number;
+    uint32_t row_block_from, window_row_block_from, window_block_from;
+};
+
 /* A scroll, from one frame to the next. An accepted shift call writes all of it; after reset all are 0. Any numbers may
  * stand here: what is out of range (a shift past 31 either way or against its direction, a phase above 7, a direction that
  * is neither 0 nor 1) is refusal 3. */
@@ -134,6 +157,11 @@ enum {
     THAGADUVIN_PHASE,      /* frames since the last line of a slow rate, 0 to 7 */
     THAGADUVIN_DIRECTION,  /* 1 up, 0 down: bit 13 of M4 */
     THAGADUVIN_SCROLL      /* 3 numbers */
+};
+
+struct thagaduvin_scroll {
+    int32_t shift; /* signed as it stands */
+    uint32_t phase, direction;
 };
 
 /* Every answer but those of a text and of a bus report begins with these three. */
@@ -170,10 +198,24 @@ enum {
     THAGADUVIN_SHEET_ANSWER    /* 21 numbers */
 };
 
+struct thagaduvin_sheet_answer {
+    uint32_t row, address, from;
+    uint32_t even_sync, even_back, even_rise, even_active, even_front, even_field;
+    uint32_t odd_sync, odd_back, odd_rise, odd_active, odd_front, odd_field;
+    uint32_t lines;
+    uint32_t clocks_sync, clocks_period, clocks_rise, clocks_fall;
+    uint32_t invoking;
+};
+
 /* The answer of an accepted start: the words read. */
 enum {
     THAGADUVIN_START_WORDS = 3,
     THAGADUVIN_START_ANSWER    /* 4 numbers */
+};
+
+struct thagaduvin_start_answer {
+    uint32_t row, address, from;
+    uint32_t words;
 };
 
 /* The answer of an accepted row: its lines, row attributes, CURS, CURE and the words read. */
@@ -184,6 +226,11 @@ enum {
     THAGADUVIN_ROW_CURE,
     THAGADUVIN_ROW_WORDS,
     THAGADUVIN_ROW_ANSWER      /* 8 numbers */
+};
+
+struct thagaduvin_row_answer {
+    uint32_t row, address, from;
+    uint32_t lines, attributes, curs, cure, words;
 };
 
 /* The cells of a row, of which HTD - HSD are shown. Bits of a cell: 7..0 code; 18..8 attribute bits 10..0; 19 attribute bit
@@ -227,6 +274,10 @@ enum {
     THAGADUVIN_MAIL_ANSWER     /* 1 number */
 };
 
+struct thagaduvin_mail_answer {
+    uint32_t count;
+};
+
 /* The longest text that a row can have, in bytes: a buffer of this size is never too short. */
 enum { THAGADUVIN_MAIL_TEXT = 1593 };
 
@@ -253,10 +304,23 @@ enum {
     THAGADUVIN_EFFECT = 12     /* numbers: two parts */
 };
 
+struct thagaduvin_part {
+    uint32_t refusal, row, address, from, set, word;
+};
+
+struct thagaduvin_effects {
+    struct thagaduvin_part ignore_clear, ignore_set;
+};
+
 /* The answer of an accepted apply: the latch. */
 enum {
     THAGADUVIN_APPLY_LATCH = 3,
     THAGADUVIN_APPLY_ANSWER    /* 4 numbers */
+};
+
+struct thagaduvin_apply_answer {
+    uint32_t row, address, from;
+    uint32_t latch;
 };
 
 /* The answer of a latch call: the latch that the frame hands on. */
@@ -265,11 +329,21 @@ enum {
     THAGADUVIN_LATCH_ANSWER    /* 4 numbers */
 };
 
+struct thagaduvin_latch_answer {
+    uint32_t row, address, from;
+    uint32_t handed_on;
+};
+
 /* The answer of an accepted shift: the frame's hard top, two words for TOP. */
 enum {
     THAGADUVIN_HARD_FIRST = 3,
     THAGADUVIN_HARD_SECOND,
     THAGADUVIN_SHIFT_ANSWER    /* 5 numbers */
+};
+
+struct thagaduvin_shift_answer {
+    uint32_t row, address, from;
+    uint32_t hard_first, hard_second;
 };
 
 /* The answer of an accepted mending step. */
@@ -282,10 +356,20 @@ enum {
     THAGADUVIN_MEND_ANSWER     /* 8 numbers */
 };
 
+struct thagaduvin_mend_answer {
+    uint32_t row, address, from;
+    uint32_t changed, changed_address, changed_first, changed_second, changed_number;
+};
+
 /* The answer of a conversion. */
 enum {
     THAGADUVIN_TURNED = 3,     /* how many pointers have changed, TOP and TOW among them; a refusal writes 0 */
     THAGADUVIN_CONVERT_ANSWER  /* 4 numbers */
+};
+
+struct thagaduvin_convert_answer {
+    uint32_t row, address, from;
+    uint32_t turned;
 };
 
 /* The running totals of a bus report, 64-bit numbers: all 0 before the first row. An accepted call writes all of them; they
@@ -301,11 +385,26 @@ enum {
     THAGADUVIN_BUS_TOTALS          /* 7 numbers */
 };
 
+struct thagaduvin_totals {
+    uint64_t words, bursts, released;
+    uint64_t largest, largest_screen, largest_row;
+    uint64_t any;
+};
+
 /* The answer of an accepted bus call, 64-bit numbers too: what the row takes. */
 enum {
     THAGADUVIN_BUS_ROW_BURSTS,     /* its bursts */
     THAGADUVIN_BUS_ROW_RELEASED,   /* its least released time, in system clocks */
     THAGADUVIN_BUS_ANSWER          /* 2 numbers */
+};
+
+struct thagaduvin_bus_answer {
+    uint64_t row_bursts, row_released;
+};
+
+/* A span of a writer of words: its first and its last byte address. */
+struct thagaduvin_span {
+    uint32_t first, last;
 };
 
 /* The calls of libthagaduvin.a. */
@@ -442,6 +541,191 @@ uint8_t thagaduvin_mend(uint32_t *settings, size_t settings_count, uint16_t *mem
  * 14. */
 uint8_t thagaduvin_convert(uint32_t *settings, size_t settings_count, uint16_t *memory, size_t memory_count, uint8_t *marks,
                            size_t marks_count, uint16_t latch, uint32_t *answer, size_t answer_count);
+
+/* The calls over structs: each call's name with _of, and its arguments but the counts that a struct or an array has by its
+ * type. So 255 comes only from numbers past their range, and 1, 25 and a reader's 23 do not come. Cells and lists are lent
+ * as pointers to arrays, &cells and &list, or &screen[y] of an array of rows. What a form does not take const it may write,
+ * but for the cells of a text.
+ *
+ * In C before C99 these are left out, but with a compiler that has __inline__: THAGADUVIN_INLINE tells. */
+#if defined(__cplusplus) || (defined(__STDC_VERSION__) && __STDC_VERSION__ >= 199901L)
+#define THAGADUVIN_INLINE static inline
+#elif defined(__GNUC__)
+#define THAGADUVIN_INLINE static __inline__
+#endif
+
+#ifdef THAGADUVIN_INLINE
+
+THAGADUVIN_INLINE uint8_t thagaduvin_sheet_of(const struct thagaduvin_settings *settings,
+                                              struct thagaduvin_sheet_answer *answer) {
+    return thagaduvin_sheet(&settings->linear, THAGADUVIN_SETTINGS, &answer->row, THAGADUVIN_SHEET_ANSWER);
+}
+
+THAGADUVIN_INLINE uint8_t thagaduvin_start_of(const struct thagaduvin_settings *settings, const uint16_t *memory,
+                                              size_t memory_count, uint16_t latch, struct thagaduvin_state *state,
+                                              uint32_t (*list)[THAGADUVIN_LIST], struct thagaduvin_start_answer *answer) {
+    return thagaduvin_start(&settings->linear, THAGADUVIN_SETTINGS, memory, memory_count, latch, &state->latch, THAGADUVIN_STATE,
+                            *list, THAGADUVIN_LIST, &answer->row, THAGADUVIN_START_ANSWER);
+}
+
+THAGADUVIN_INLINE uint8_t thagaduvin_row_of(const struct thagaduvin_settings *settings, const uint16_t *memory,
+                                            size_t memory_count, struct thagaduvin_state *state,
+                                            uint32_t (*cells)[THAGADUVIN_CELLS], uint32_t (*list)[THAGADUVIN_LIST],
+                                            struct thagaduvin_row_answer *answer) {
+    return thagaduvin_row(&settings->linear, THAGADUVIN_SETTINGS, memory, memory_count, &state->latch, THAGADUVIN_STATE, *cells,
+                          THAGADUVIN_CELLS, *list, THAGADUVIN_LIST, &answer->row, THAGADUVIN_ROW_ANSWER);
+}
+
+THAGADUVIN_INLINE uint8_t thagaduvin_latch_of(uint16_t latch, const struct thagaduvin_state *state,
+                                              struct thagaduvin_latch_answer *answer) {
+    return thagaduvin_latch(latch, &state->latch, THAGADUVIN_STATE, &answer->row, THAGADUVIN_LATCH_ANSWER);
+}
+
+THAGADUVIN_INLINE uint8_t thagaduvin_bus_of(uint16_t burst, uint32_t words, uint32_t screen, uint32_t row,
+                                            struct thagaduvin_totals *totals, struct thagaduvin_bus_answer *answer) {
+    return thagaduvin_bus(burst, words, screen, row, &totals->words, THAGADUVIN_BUS_TOTALS, &answer->row_bursts,
+                          THAGADUVIN_BUS_ANSWER);
+}
+
+THAGADUVIN_INLINE uint8_t thagaduvin_write_mail_of(const struct thagaduvin_settings *settings,
+                                                   uint32_t (*cells)[THAGADUVIN_CELLS], uint8_t *text, size_t text_count,
+                                                   struct thagaduvin_mail_answer *answer) {
+    return thagaduvin_write_mail(&settings->linear, THAGADUVIN_SETTINGS, *cells, THAGADUVIN_CELLS, text, text_count,
+                                 &answer->count, THAGADUVIN_MAIL_ANSWER);
+}
+
+THAGADUVIN_INLINE uint8_t thagaduvin_read_mail_of(const uint8_t *text, size_t text_count, uint16_t (*cells)[THAGADUVIN_CELLS],
+                                                  struct thagaduvin_mail_answer *answer) {
+    return thagaduvin_read_mail(text, text_count, *cells, THAGADUVIN_CELLS, &answer->count, THAGADUVIN_MAIL_ANSWER);
+}
+
+THAGADUVIN_INLINE uint8_t thagaduvin_write_word_of(uint16_t *memory, size_t memory_count, const struct thagaduvin_span *own,
+                                                   const struct thagaduvin_span *other, uint32_t address, uint16_t word) {
+    return thagaduvin_write_word(memory, memory_count, own->first, own->last, other->first, other->last, address, word);
+}
+
+THAGADUVIN_INLINE uint8_t thagaduvin_effect_of(const struct thagaduvin_settings *settings, const uint16_t *memory,
+                                               size_t memory_count, struct thagaduvin_state *state,
+                                               struct thagaduvin_effects *effect) {
+    return thagaduvin_effect(&settings->linear, THAGADUVIN_SETTINGS, memory, memory_count, &state->latch, THAGADUVIN_STATE,
+                             &effect->ignore_clear.refusal, THAGADUVIN_EFFECT);
+}
+
+THAGADUVIN_INLINE uint8_t thagaduvin_join_of(const struct thagaduvin_effects *first, const struct thagaduvin_effects *second,
+                                             struct thagaduvin_effects *joined) {
+    return thagaduvin_join(&first->ignore_clear.refusal, THAGADUVIN_EFFECT, &second->ignore_clear.refusal, THAGADUVIN_EFFECT,
+                           &joined->ignore_clear.refusal, THAGADUVIN_EFFECT);
+}
+
+THAGADUVIN_INLINE uint8_t thagaduvin_apply_of(const struct thagaduvin_effects *effect, uint16_t latch,
+                                              struct thagaduvin_apply_answer *answer) {
+    return thagaduvin_apply(&effect->ignore_clear.refusal, THAGADUVIN_EFFECT, latch, &answer->row, THAGADUVIN_APPLY_ANSWER);
+}
+
+THAGADUVIN_INLINE uint8_t thagaduvin_shift_of(const struct thagaduvin_settings *settings, const uint16_t *memory,
+                                              size_t memory_count, uint16_t soft_first, uint16_t soft_second,
+                                              struct thagaduvin_scroll *scroll, struct thagaduvin_shift_answer *answer) {
+    return thagaduvin_shift(&settings->linear, THAGADUVIN_SETTINGS, memory, memory_count, soft_first, soft_second,
+                            (uint32_t *)&scroll->shift, THAGADUVIN_SCROLL, &answer->row, THAGADUVIN_SHIFT_ANSWER);
+}
+
+THAGADUVIN_INLINE uint8_t thagaduvin_beside_of(const struct thagaduvin_settings *settings, const uint16_t *memory,
+                                               size_t memory_count, int32_t shift, uint16_t soft_first, uint16_t soft_second,
+                                               uint16_t latch, const struct thagaduvin_state *state,
+                                               uint32_t (*cells)[THAGADUVIN_CELLS], uint32_t (*list)[THAGADUVIN_LIST],
+                                               struct thagaduvin_row_answer *answer) {
+    return thagaduvin_beside(&settings->linear, THAGADUVIN_SETTINGS, memory, memory_count, shift, soft_first, soft_second, latch,
+                             &state->latch, THAGADUVIN_STATE, *cells, THAGADUVIN_CELLS, *list, THAGADUVIN_LIST, &answer->row,
+                             THAGADUVIN_ROW_ANSWER);
+}
+
+THAGADUVIN_INLINE uint8_t thagaduvin_mend_of(struct thagaduvin_settings *settings, uint16_t *memory, size_t memory_count,
+                                             uint16_t latch, struct thagaduvin_mend_answer *answer) {
+    return thagaduvin_mend(&settings->linear, THAGADUVIN_SETTINGS, memory, memory_count, latch, &answer->row,
+                           THAGADUVIN_MEND_ANSWER);
+}
+
+THAGADUVIN_INLINE uint8_t thagaduvin_convert_of(struct thagaduvin_settings *settings, uint16_t *memory, size_t memory_count,
+                                                uint8_t *marks, size_t marks_count, uint16_t latch,
+                                                struct thagaduvin_convert_answer *answer) {
+    return thagaduvin_convert(&settings->linear, THAGADUVIN_SETTINGS, memory, memory_count, marks, marks_count, latch,
+                              &answer->row, THAGADUVIN_CONVERT_ANSWER);
+}
+
+#endif
+
+/* Each struct has the places of its slice: every field stands where its enumerator says, and there is nothing else. Where
+ * not, this does not compile. */
+#define THAGADUVIN_HAS(tag, number, count) \
+    typedef char thagaduvin_##tag##_count[sizeof(struct thagaduvin_##tag) == sizeof(number) * THAGADUVIN_##count ? 1 : -1];
+#define THAGADUVIN_AT(tag, field, place) \
+    typedef char thagaduvin_##tag##_##field##_place[offsetof(struct thagaduvin_##tag, field) == \
+                                                    sizeof(((struct thagaduvin_##tag *)0)->field) * THAGADUVIN_##place ? 1 : -1];
+#define THAGADUVIN_ANSWERS(tag) \
+    THAGADUVIN_AT(tag, row, ANSWER_ROW) THAGADUVIN_AT(tag, address, ANSWER_ADDRESS) THAGADUVIN_AT(tag, from, ANSWER_FROM)
+THAGADUVIN_HAS(settings, uint32_t, SETTINGS) THAGADUVIN_AT(settings, linear, LINEAR) THAGADUVIN_AT(settings, hidden, HIDDEN)
+THAGADUVIN_AT(settings, interlace, INTERLACE) THAGADUVIN_AT(settings, cursor, CURSOR) THAGADUVIN_AT(settings, flag, FLAG)
+THAGADUVIN_AT(settings, top_first, TOP_FIRST) THAGADUVIN_AT(settings, top_second, TOP_SECOND)
+THAGADUVIN_AT(settings, tow_first, TOW_FIRST) THAGADUVIN_AT(settings, tow_second, TOW_SECOND)
+THAGADUVIN_AT(settings, vsw, VSW) THAGADUVIN_AT(settings, vsd, VSD) THAGADUVIN_AT(settings, val, VAL)
+THAGADUVIN_AT(settings, vtot, VTOT) THAGADUVIN_AT(settings, hsync, HSYNC) THAGADUVIN_AT(settings, hsd, HSD)
+THAGADUVIN_AT(settings, htc, HTC) THAGADUVIN_AT(settings, htd, HTD) THAGADUVIN_AT(settings, edition, EDITION)
+THAGADUVIN_HAS(state, uint32_t, STATE) THAGADUVIN_AT(state, latch, LATCH) THAGADUVIN_AT(state, row, ROW)
+THAGADUVIN_AT(state, left, LEFT) THAGADUVIN_AT(state, cursor_x, CURSOR_X) THAGADUVIN_AT(state, cursor_y, CURSOR_Y)
+THAGADUVIN_AT(state, fill_code, FILL_CODE) THAGADUVIN_AT(state, fill_flag, FILL_FLAG)
+THAGADUVIN_AT(state, scan_lines, SCAN_LINES) THAGADUVIN_AT(state, attributes, ATTRIBUTES) THAGADUVIN_AT(state, curs, CURS)
+THAGADUVIN_AT(state, cure, CURE) THAGADUVIN_AT(state, row_block, ROW_BLOCK) THAGADUVIN_AT(state, window, WINDOW)
+THAGADUVIN_AT(state, window_top, WINDOW_TOP) THAGADUVIN_AT(state, window_bottom, WINDOW_BOTTOM)
+THAGADUVIN_AT(state, window_left, WINDOW_LEFT) THAGADUVIN_AT(state, window_right, WINDOW_RIGHT)
+THAGADUVIN_AT(state, window_row_block, WINDOW_ROW_BLOCK) THAGADUVIN_AT(state, window_block, WINDOW_BLOCK)
+THAGADUVIN_AT(state, window_number, WINDOW_NUMBER) THAGADUVIN_AT(state, row_block_from, ROW_BLOCK_FROM)
+THAGADUVIN_AT(state, window_row_block_from, WINDOW_ROW_BLOCK_FROM) THAGADUVIN_AT(state, window_block_from, WINDOW_BLOCK_FROM)
+THAGADUVIN_HAS(scroll, uint32_t, SCROLL) THAGADUVIN_AT(scroll, shift, SHIFT) THAGADUVIN_AT(scroll, phase, PHASE)
+THAGADUVIN_AT(scroll, direction, DIRECTION)
+THAGADUVIN_HAS(sheet_answer, uint32_t, SHEET_ANSWER) THAGADUVIN_ANSWERS(sheet_answer)
+THAGADUVIN_AT(sheet_answer, even_sync, SHEET_EVEN_SYNC) THAGADUVIN_AT(sheet_answer, even_back, SHEET_EVEN_BACK)
+THAGADUVIN_AT(sheet_answer, even_rise, SHEET_EVEN_RISE) THAGADUVIN_AT(sheet_answer, even_active, SHEET_EVEN_ACTIVE)
+THAGADUVIN_AT(sheet_answer, even_front, SHEET_EVEN_FRONT) THAGADUVIN_AT(sheet_answer, even_field, SHEET_EVEN_FIELD)
+THAGADUVIN_AT(sheet_answer, odd_sync, SHEET_ODD_SYNC) THAGADUVIN_AT(sheet_answer, odd_back, SHEET_ODD_BACK)
+THAGADUVIN_AT(sheet_answer, odd_rise, SHEET_ODD_RISE) THAGADUVIN_AT(sheet_answer, odd_active, SHEET_ODD_ACTIVE)
+THAGADUVIN_AT(sheet_answer, odd_front, SHEET_ODD_FRONT) THAGADUVIN_AT(sheet_answer, odd_field, SHEET_ODD_FIELD)
+THAGADUVIN_AT(sheet_answer, lines, SHEET_LINES) THAGADUVIN_AT(sheet_answer, clocks_sync, SHEET_CLOCKS_SYNC)
+THAGADUVIN_AT(sheet_answer, clocks_period, SHEET_CLOCKS_PERIOD) THAGADUVIN_AT(sheet_answer, clocks_rise, SHEET_CLOCKS_RISE)
+THAGADUVIN_AT(sheet_answer, clocks_fall, SHEET_CLOCKS_FALL) THAGADUVIN_AT(sheet_answer, invoking, SHEET_INVOKING)
+THAGADUVIN_HAS(start_answer, uint32_t, START_ANSWER) THAGADUVIN_ANSWERS(start_answer)
+THAGADUVIN_AT(start_answer, words, START_WORDS)
+THAGADUVIN_HAS(row_answer, uint32_t, ROW_ANSWER) THAGADUVIN_ANSWERS(row_answer) THAGADUVIN_AT(row_answer, lines, ROW_LINES)
+THAGADUVIN_AT(row_answer, attributes, ROW_ATTRIBUTES) THAGADUVIN_AT(row_answer, curs, ROW_CURS)
+THAGADUVIN_AT(row_answer, cure, ROW_CURE) THAGADUVIN_AT(row_answer, words, ROW_WORDS)
+THAGADUVIN_HAS(mail_answer, uint32_t, MAIL_ANSWER) THAGADUVIN_AT(mail_answer, count, MAIL_COUNT)
+THAGADUVIN_HAS(part, uint32_t, PART) THAGADUVIN_AT(part, refusal, PART_REFUSAL) THAGADUVIN_AT(part, row, PART_ROW)
+THAGADUVIN_AT(part, address, PART_ADDRESS) THAGADUVIN_AT(part, from, PART_FROM) THAGADUVIN_AT(part, set, PART_SET)
+THAGADUVIN_AT(part, word, PART_WORD)
+THAGADUVIN_HAS(apply_answer, uint32_t, APPLY_ANSWER) THAGADUVIN_ANSWERS(apply_answer)
+THAGADUVIN_AT(apply_answer, latch, APPLY_LATCH)
+THAGADUVIN_HAS(latch_answer, uint32_t, LATCH_ANSWER) THAGADUVIN_ANSWERS(latch_answer)
+THAGADUVIN_AT(latch_answer, handed_on, HANDED_ON)
+THAGADUVIN_HAS(shift_answer, uint32_t, SHIFT_ANSWER) THAGADUVIN_ANSWERS(shift_answer)
+THAGADUVIN_AT(shift_answer, hard_first, HARD_FIRST) THAGADUVIN_AT(shift_answer, hard_second, HARD_SECOND)
+THAGADUVIN_HAS(mend_answer, uint32_t, MEND_ANSWER) THAGADUVIN_ANSWERS(mend_answer)
+THAGADUVIN_AT(mend_answer, changed, CHANGED) THAGADUVIN_AT(mend_answer, changed_address, CHANGED_ADDRESS)
+THAGADUVIN_AT(mend_answer, changed_first, CHANGED_FIRST) THAGADUVIN_AT(mend_answer, changed_second, CHANGED_SECOND)
+THAGADUVIN_AT(mend_answer, changed_number, CHANGED_NUMBER)
+THAGADUVIN_HAS(convert_answer, uint32_t, CONVERT_ANSWER) THAGADUVIN_ANSWERS(convert_answer)
+THAGADUVIN_AT(convert_answer, turned, TURNED)
+THAGADUVIN_HAS(totals, uint64_t, BUS_TOTALS) THAGADUVIN_AT(totals, words, BUS_WORDS) THAGADUVIN_AT(totals, bursts, BUS_BURSTS)
+THAGADUVIN_AT(totals, released, BUS_RELEASED) THAGADUVIN_AT(totals, largest, BUS_LARGEST)
+THAGADUVIN_AT(totals, largest_screen, BUS_LARGEST_SCREEN) THAGADUVIN_AT(totals, largest_row, BUS_LARGEST_ROW)
+THAGADUVIN_AT(totals, any, BUS_ANY)
+THAGADUVIN_HAS(bus_answer, uint64_t, BUS_ANSWER) THAGADUVIN_AT(bus_answer, row_bursts, BUS_ROW_BURSTS)
+THAGADUVIN_AT(bus_answer, row_released, BUS_ROW_RELEASED)
+THAGADUVIN_HAS(effects, uint32_t, EFFECT)
+typedef char thagaduvin_effects_parts[
+    offsetof(struct thagaduvin_effects, ignore_clear) == 0 &&
+    offsetof(struct thagaduvin_effects, ignore_set) == sizeof(uint32_t) * THAGADUVIN_PART ? 1 : -1];
+#undef THAGADUVIN_HAS
+#undef THAGADUVIN_AT
+#undef THAGADUVIN_ANSWERS
 
 #ifdef __cplusplus
 }
