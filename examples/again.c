@@ -156,6 +156,7 @@ int main(int count, char **arguments) {
         {0x46, 0x12, "row 2's code pointer, now outside memory"},
         {0xBA, '6' << 8 | ' ', "in the text of row 3, which is not drawn"},
         {0x46, 0, "row 2's code pointer, as it was"},
+        {0x16, '.', "the main block's fill code, which the start reads: all states are other ones"},
     };
     static struct screen screen; /* nothing known */
     struct writes written = {0, {0}};

@@ -1,19 +1,19 @@
 /* Rows of an Am8052 or Z8052 screen: the calls of a console, over slices that it lends them.
  *
- * Structs. A slice of numbers at fixed places has a struct of the same layout beside its places, with their names as fields,
- * and each call a form over these structs, its name with _of, at the end of this file: no count and no place is written by
- * hand. Names of calls are not taken: an effect is a struct thagaduvin_effects, a row's answer a struct
+ * Structs. A slice of numbers at fixed places has a struct of the same layout beside its places, with their names as
+ * fields, and each call a form over these structs, its name with _of, at the end of this file: no count and no place is
+ * written by hand. Names of calls are not taken: an effect is a struct thagaduvin_effects, a row's answer a struct
  * thagaduvin_row_answer.
  *
  * Slices. A slice is a pointer and its count of elements, one argument after the other. No pointer is null, also where the
  * count is 0; each is aligned as its elements ask. A slice that a call writes (not const) overlaps no other slice of that
  * call. Memory has any count of words, numbers of the machine: the word at the byte address a is memory[a / 2].
  *
- * Status. Each call gives one: 0, accepted; the number of a refusal (THAGADUVIN_REFUSED_..); or 255, THAGADUVIN_MISUSED. 255
- * is judged before all, and nothing is written: a slice has not the count that its table says; a state's latch, cursor, fill
- * or mark of a window is past its range; an effect is none, as its table says; the mark of totals is above 1. A number past
- * its range is else a refusal: among settings 2, in a state or a scroll 3. Counts that are judged by a refusal, and not by
- * 255: cells 1, list 25, marks 22, the buffer of a text or of cells that are read back 23.
+ * Status. Each call gives one: 0, accepted; the number of a refusal (THAGADUVIN_REFUSED_..); or 255, THAGADUVIN_MISUSED.
+ * 255 is judged before all, and nothing is written: a slice has not the count that its table says; a state's latch, cursor,
+ * fill or mark of a window is past its range; an effect is none, as its table says; the mark of totals is above 1. A number
+ * past its range is else a refusal: among settings 2, in a state or a scroll 3. Counts that are judged by a refusal, and
+ * not by 255: cells 1, list 25, marks 22, the buffer of a text or of cells that are read back 23.
  *
  * What a refusal writes. Of a sheet, a start, a row, an apply, a shift, a row beside the cut and a mending step the first
  * three places of the answer, and nothing else; of a conversion the whole answer, and the marks are free; of a reader of
@@ -23,12 +23,14 @@
  *
  * Order. Each call names its refusals in the order in which they are judged; it gives the first.
  *
- * The host. The library is for x86-64 and Linux, its code is position independent. It has no data, takes no memory but what
- * is lent and its stack, and needs memcpy and memset alone. Any thread may call, several at once, as long as no other one
- * writes what is lent, or reads what the call writes, until the call is done.
+ * The host. The library, libthagaduvin.a, is for x86-64 and Linux, and position independent. It has no data, takes no
+ * memory but what is lent and its stack, and needs memcpy and memset alone. Any thread may call, several at once, as long
+ * as no other one writes what is lent, or reads what the call writes, until the call is done. `rt staticlib` makes it in
+ * five parts, named below where their calls begin; `./build library` puts them together.
  *
- * Stack of a call in bytes, as measured: sheet 40, start 232, effect 1,100, mend 1,882, convert 1,965, row 2,096, beside
- * 2,540, write_mail 4,984. */
+ * Stack of a call, at most, as measured: half a kilobyte for sheet, start, latch, bus, read_mail, write_word, join and
+ * apply; one for shift; two for write_mail; three for row, effect, beside, mend and convert. (The first call through a lazy
+ * binding of memcpy or memset takes two more.) */
 #ifndef THAGADUVIN_H
 #define THAGADUVIN_H
 
@@ -234,8 +236,8 @@ struct thagaduvin_row_answer {
 };
 
 /* The cells of a row, of which HTD - HSD are shown. Bits of a cell: 7..0 code; 18..8 attribute bits 10..0; 19 attribute bit
- * 14; 21..20 source (0 fill, 1 background, 2 window); 22 the absolute cursor; 23 is 0; 31..24 the number of the window along
- * the chain, from 0, where the source is 2, else 0. */
+ * 14; 21..20 source (0 fill, 1 background, 2 window); 22 the absolute cursor; 23 is 0; 31..24 the number of the window
+ * along the chain, from 0, where the source is 2, else 0. */
 enum { THAGADUVIN_CELLS = 132 };
 
 #define THAGADUVIN_CELL_CODE(cell) ((cell) & 0xFFu)
@@ -289,10 +291,10 @@ enum {
     THAGADUVIN_MAIL_REVERSE = 0x800
 };
 
-/* An effect: its part for a latch with ignore (bit 13) clear, then, 6 places on, the one for a latch with ignore set. A part
- * refuses where the number of its refusal is not 0; else it sets the latch or keeps it. What a part does not use is 0: where
- * it refuses, SET and WORD, and FROM but of refusal 7; where not, ROW, ADDRESS and FROM, and WORD where it keeps. Twelve
- * zeros are the empty effect. Other numbers are no effect, and 255. */
+/* An effect: its part for a latch with ignore (bit 13) clear, then, 6 places on, the one for a latch with ignore set. A
+ * part refuses where the number of its refusal is not 0; else it sets the latch or keeps it. What a part does not use is 0:
+ * where it refuses, SET and WORD, and FROM but of refusal 7; where not, ROW, ADDRESS and FROM, and WORD where it keeps.
+ * Twelve zeros are the empty effect. Other numbers are no effect, and 255. */
 enum {
     THAGADUVIN_PART_REFUSAL,   /* number of its refusal, 0, 2 to 4, 7 to 13 or 17 */
     THAGADUVIN_PART_ROW,       /* the refusal's row, any number */
@@ -407,14 +409,14 @@ struct thagaduvin_span {
     uint32_t first, last;
 };
 
-/* The calls of libthagaduvin.a. */
+/* A frame and its rows, texts, the bus, a writer of words: part thagaduvin. */
 
 /* The settings sheet. Refusal: 2. */
 uint8_t thagaduvin_sheet(const uint32_t *settings, size_t settings_count, uint32_t *answer, size_t answer_count);
 
-/* A frame's first state, into `state`, whatever stood there, and the addresses of the words read into `list`. `latch` is the
- * latch that the frame before handed on, 0 for the first frame after reset; any is taken, and the state's latch is it. A
- * refused start gives no state, and the frame hands on `latch`: the console keeps it for the next start. Refusals: 25; 2;
+/* A frame's first state, into `state`, whatever stood there, and the addresses of the words read into `list`. `latch` is
+ * the latch that the frame before handed on, 0 for the first frame after reset; any is taken, and the state's latch is it.
+ * A refused start gives no state, and the frame hands on `latch`: the console keeps it for the next start. Refusals: 25; 2;
  * 17; of the main block 6, 7, 14; of the first window 7, 8. */
 uint8_t thagaduvin_start(const uint32_t *settings, size_t settings_count, const uint16_t *memory, size_t memory_count,
                          uint16_t latch, uint32_t *state, size_t state_count, uint32_t *list, size_t list_count, uint32_t *answer,
@@ -428,16 +430,16 @@ uint8_t thagaduvin_row(const uint32_t *settings, size_t settings_count, const ui
                        size_t list_count, uint32_t *answer, size_t answer_count);
 
 /* The latch that a frame hands on to the next start, from the `latch` that it was started with and the state that it ended
- * with: the state's latch where no line is left, else `latch`, since a refused frame hands on the latch it was started with,
- * and so does one that is left half way. A frame ends at its first refused row, even if rows are drawn from that state
- * later; a call refused 1 or 25 is no row and ends no frame. The status is 0 or 255. */
+ * with: the state's latch where no line is left, else `latch`, since a refused frame hands on the latch it was started
+ * with, and so does one that is left half way. A frame ends at its first refused row, even if rows are drawn from that
+ * state later; a call refused 1 or 25 is no row and ends no frame. The status is 0 or 255. */
 uint8_t thagaduvin_latch(uint16_t latch, const uint32_t *state, size_t state_count, uint32_t *answer, size_t answer_count);
 
 /* A row of a bus report, which is handed in: the burst register (space in the high byte, count in the low), the words read
  * for the row, its screen and its number. The words of a start go with row 0: hand in their sum, as one count. The bursts
  * are the words over the count, rounded up; between two bursts of a row the bus is released for 15 system clocks times the
- * space at least. A space of 0 keeps the bus: one burst if any word is read, and no gap. Refusals: 20, a count of 0; 21, one
- * of the three sums above 2^64 - 1. */
+ * space at least. A space of 0 keeps the bus: one burst if any word is read, and no gap. Refusals: 20, a count of 0; 21,
+ * one of the three sums above 2^64 - 1. */
 uint8_t thagaduvin_bus(uint16_t burst, uint32_t words, uint32_t screen, uint32_t row, uint64_t *totals, size_t totals_count,
                        uint64_t *answer, size_t answer_count);
 
@@ -450,15 +452,16 @@ uint8_t thagaduvin_write_mail(const uint32_t *settings, size_t settings_count, c
                               uint8_t *text, size_t text_count, uint32_t *answer, size_t answer_count);
 
 /* The cells of one such text, of 1 to 132 cells, into `cells`; those past them stay. Any bytes may be handed in. Refusals:
- * 24, the text is none that the writer writes, and the answer is the length of the longest beginning of it that some written
- * text also has: the offset of the first byte that cannot stand there, or the text's length; 23, `cells` is too short. */
+ * 24, the text is none that the writer writes, and the answer is the length of the longest beginning of it that some
+ * written text also has: the offset of the first byte that cannot stand there, or the text's length; 23, `cells` is too
+ * short. */
 uint8_t thagaduvin_read_mail(const uint8_t *text, size_t text_count, uint16_t *cells, size_t cells_count, uint32_t *answer,
                              size_t answer_count);
 
 /* A word of memory is written by one of two desks that share it: `word` at the byte address `address`, where that is even,
  * in the writer's own span and in memory. A span has its first and its last byte address and those between; a first one
- * above the last is an empty span. Refusals: 16, the two spans share an address; 15, any other write. The status is 0, 16 or
- * 15.
+ * above the last is an empty span. Refusals: 16, the two spans share an address; 15, any other write. The status is 0, 16
+ * or 15.
  *
  * What the other desk may rely on: a frame that is not refused, and whose lists have no address of the writer's span, is
  * what it would be without this call; so is its row beside the cut, where that is not refused and its list has none either.
@@ -467,11 +470,11 @@ uint8_t thagaduvin_read_mail(const uint8_t *text, size_t text_count, uint16_t *c
 uint8_t thagaduvin_write_word(uint16_t *memory, size_t memory_count, uint32_t own_first, uint32_t own_last, uint32_t other_first,
                               uint32_t other_last, uint32_t address, uint16_t word);
 
-/* The calls on effects, of libthagaduvin_effect.a. */
+/* Effects of rows: part thagaduvin_effect. */
 
 /* The effect of the row of `state` on any latch, into `effect`; and the next state into `state`, all but its latch, which
- * stays. Where both parts refuse, all of `state` stays: who goes down the rows stops there, since its lines left do not fall
- * any more. A refusal stands in the parts, those of a row but 1 and 25: the status is 0 or 255. */
+ * stays. Where both parts refuse, all of `state` stays: who goes down the rows stops there, since its lines left do not
+ * fall any more. A refusal stands in the parts, those of a row but 1 and 25: the status is 0 or 255. */
 uint8_t thagaduvin_effect(const uint32_t *settings, size_t settings_count, const uint16_t *memory, size_t memory_count,
                           uint32_t *state, size_t state_count, uint32_t *effect, size_t effect_count);
 
@@ -482,7 +485,7 @@ uint8_t thagaduvin_join(const uint32_t *first, size_t first_count, const uint32_
 /* The latch that an effect makes of `latch`, or the refusal of its part for that latch: 2 to 4, 7 to 13 or 17. */
 uint8_t thagaduvin_apply(const uint32_t *effect, size_t effect_count, uint16_t latch, uint32_t *answer, size_t answer_count);
 
-/* The calls of a soft scroll, of libthagaduvin_scroll.a. */
+/* Soft scroll: part thagaduvin_scroll. */
 
 /* The shift call, before each frame: from the last frame's scroll to this one's, in `scroll`, and the frame's hard top into
  * the answer; the console puts that into TOP and then starts the frame. TOP is the last frame's hard top; `soft_first` and
@@ -518,27 +521,27 @@ uint8_t thagaduvin_beside(const uint32_t *settings, size_t settings_count, const
                           size_t state_count, uint32_t *cells, size_t cells_count, uint32_t *list, size_t list_count,
                           uint32_t *answer, size_t answer_count);
 
-/* The call that mends, of libthagaduvin_mend.a. */
+/* Mending: part thagaduvin_mend. */
 
-/* One step of mending a damaged list: a frame is drawn from `latch`, and at a refusal 7 to 13 the pointer to blame for it is
- * set to 0: 7 the pointer in use, 13 the attribute pointer, 9 and 10 the one that led to the row block or window row block,
- * 8, 11 and 12 the one that led to the window. Its two words become 0, in `memory` or, for TOW, in `settings`; nothing else
- * changes there. Status 0 with CHANGED 1: call again, from the same latch; each change leaves fewer words that are not 0, so
- * this ends. Status 0 with CHANGED 0: the list is drawn to its end. Refusals, given as they are, with nothing changed: 2;
- * 17; of the main block 6, 7, 14. */
+/* One step of mending a damaged list: a frame is drawn from `latch`, and at a refusal 7 to 13 the pointer to blame for it
+ * is set to 0: 7 the pointer in use, 13 the attribute pointer, 9 and 10 the one that led to the row block or window row
+ * block, 8, 11 and 12 the one that led to the window. Its two words become 0, in `memory` or, for TOW, in `settings`;
+ * nothing else changes there. Status 0 with CHANGED 1: call again, from the same latch; each change leaves fewer words that
+ * are not 0, so this ends. Status 0 with CHANGED 0: the list is drawn to its end. Refusals, given as they are, with nothing
+ * changed: 2; 17; of the main block 6, 7, 14. */
 uint8_t thagaduvin_mend(uint32_t *settings, size_t settings_count, uint16_t *memory, size_t memory_count, uint16_t latch,
                         uint32_t *answer, size_t answer_count);
 
-/* The call that converts, of libthagaduvin_convert.a. */
+/* Converting: part thagaduvin_convert. */
 
 /* A segmented list turned into a linear one: the frame from `latch` is followed, and the first word of each pointer that it
  * reads, in `memory`, and those of TOP and TOW, in `settings`, take their linear form, each once: the page in the low byte,
  * the other bits 0. Second words stay, as do pointers that the frame does not read. The settings are then linear, and the
  * linear frame from that latch has the cells and counts of the segmented one. `marks` has a byte for each word of memory,
- * whatever it holds, and is free after the call. Refusals: 22, another number of marks; 2; 26, the settings are linear; then
- * as they are met 18, a block or list that is read on over its page end (address of the page's last word), 19, a word of a
- * pointer that is also read as anything but that word of a pointer (its address), and those of a start and its rows, 6 to
- * 14. */
+ * whatever it holds, and is free after the call. Refusals: 22, another number of marks; 2; 26, the settings are linear;
+ * then as they are met 18, a block or list that is read on over its page end (address of the page's last word), 19, a word
+ * of a pointer that is also read as anything but that word of a pointer (its address), and those of a start and its rows, 6
+ * to 14. */
 uint8_t thagaduvin_convert(uint32_t *settings, size_t settings_count, uint16_t *memory, size_t memory_count, uint8_t *marks,
                            size_t marks_count, uint16_t latch, uint32_t *answer, size_t answer_count);
 
