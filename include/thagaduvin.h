@@ -29,8 +29,8 @@
  * five parts, named below where their calls begin; `./build library` puts them together.
  *
  * Stack of a call, at most, as measured: half a kilobyte for sheet, start, latch, bus, read_mail, write_word, join and
- * apply; one for shift; two for write_mail; three for row, effect, beside, mend and convert. (The first call through a lazy
- * binding of memcpy or memset takes two more.) */
+ * apply; one for shift; two for write_mail and mend; three for row, effect, beside and convert. (Where memcpy and memset
+ * are bound lazily, the first call of each takes two more.) */
 #ifndef THAGADUVIN_H
 #define THAGADUVIN_H
 
@@ -235,15 +235,15 @@ struct thagaduvin_row_answer {
     uint32_t lines, attributes, curs, cure, words;
 };
 
-/* The cells of a row, of which HTD - HSD are shown. Bits of a cell: 7..0 code; 18..8 attribute bits 10..0; 19 attribute bit
- * 14; 21..20 source (0 fill, 1 background, 2 window); 22 the absolute cursor; 23 is 0; 31..24 the number of the window
- * along the chain, from 0, where the source is 2, else 0. */
+/* The cells of a row, of which the first HTD - HSD are shown. Bits of a cell: 7..0 code; 18..8 attribute bits 10..0; 19
+ * attribute bit 14; 21..20 source (0 fill, 1 background, 2 window); 22 the absolute cursor; 23 is 0; 31..24 the number of
+ * the window along the chain, from 0, where the source is 2, else 0. */
 enum { THAGADUVIN_CELLS = 132 };
 
 #define THAGADUVIN_CELL_CODE(cell) ((cell) & 0xFFu)
 #define THAGADUVIN_CELL_ATTRIBUTES(cell) ((cell) >> 8 & 0x7FFu)     /* attribute bits 10..0, at their places */
 #define THAGADUVIN_CELL_ATTRIBUTE_CURSOR(cell) ((cell) >> 19 & 1u)  /* attribute bit 14: 1 or 0 */
-#define THAGADUVIN_CELL_SOURCE(cell) ((cell) >> 20 & 3u)            /* one of these three */
+#define THAGADUVIN_CELL_SOURCE(cell) ((cell) >> 20 & 3u)            /* one of the three below */
 #define THAGADUVIN_CELL_CURSOR(cell) ((cell) >> 22 & 1u)            /* the absolute cursor: 1 or 0 */
 #define THAGADUVIN_CELL_WINDOW(cell) ((cell) >> 24 & 0xFFu)         /* the window's number, where the source is a window */
 
