@@ -25,7 +25,7 @@ module _ (next f g : Script → (registers memory : List ℕ) → Fed) (e : (s :
   onward-part (Draw σ) rs m = refl
   onward-part (Refused n) rs m = refl
 
-feed-append : (a b : List ℕ) (s : Script) (rs m : List ℕ) → feeding (a ++ b) s rs m ≡ onward (feeding a s rs m) (feeding b)
+pub feed-append : (a b : List ℕ) (s : Script) (rs m : List ℕ) → feeding (a ++ b) s rs m ≡ onward (feeding a s rs m) (feeding b)
 unfolding feeding
 feed-append [] b s rs m = refl
 feed-append (x ∷ a) b s rs m =
