@@ -1,12 +1,12 @@
 -- Readings that refuse with the numbers of a list only: one law for each way to make a reading of others.
-use mathlib.Core.Path.{_≡_, refl}
+use mathlib.Core.Path.{_≡_, refl, sym, _∙_}
 use mathlib.Core.Bool.{Bool, true, false, _||_}
 use mathlib.Core.List.{List, [], _∷_}
-use Prim.Native.Nat.{ℕ, zero, suc, _+_, _/_}
+use Prim.Native.Nat.{ℕ, zero, suc, _+_, _/_, _≤_}
 use native.Mathlib.Omega.{arith}
 use lib.ListN.{length, getD}
 use lib.Dec.{ltb, eqb}
-use borrow.Author.Tests.{eqb-true}
+use borrow.Author.Tests.{eqb-true, ltb-false}
 use Rattle.memory.specs.declared.Fault.{Fault}
 use Rattle.memory.specs.declared.Pointer.{Pointer}
 use Rattle.memory.specs.Word.{if_then_else_}
@@ -107,3 +107,19 @@ run-told h w m dones = given-told
 run-told h w m (refuses e) = refused-told e
 run-told {ns} h w m (asks {q} g) =
     if-cases (Told ns) (ltb (q .address / 2) (length m)) (λ _. run-told h (w + 1) m (g (getD m (q .address / 2) 0))) (λ _. refused-told h)
+
+-- a reading none of whose checks refuses with 7 is refused 7 by a missing word alone: the address told is outside memory
+pub data Missing {A : Type 0} (m : List ℕ) : Outcome A → Type 0 where
+  given-missing : {k : ℕ} {a : A} → Missing m (given k a)
+  refused-missing : {x : Fault} → (x .number ≡ 7 → length m ≤ x .address / 2) → Missing m (refused x)
+
+pub run-missing : {A : Type 0} {ns : List ℕ} → has 7 ns ≡ false → (w : ℕ) (m : List ℕ) {p : Reading A} → Refuses ns p → Missing m (runFrom w m p)
+unfolding runFrom
+run-missing h w m dones = given-missing
+run-missing {ns} h w m (refuses {x} e) = refused-missing {x = x} λ n. absurd (apart (sym (rw n at e) ∙ h))
+  where
+    apart : true ≡ false → ⊥
+    apart z = let q : _≡_ {A = ℕ} 0 1 = cc in omega arith
+run-missing h w m (asks {q} g) =
+    if-cases (Missing m) (ltb (q .address / 2) (length m)) (λ _. run-missing h (w + 1) m (g (getD m (q .address / 2) 0)))
+    (λ e. refused-missing λ _. ltb-false (q .address / 2) (length m) e)

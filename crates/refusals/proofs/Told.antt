@@ -45,7 +45,7 @@ use Rattle.scroll.specs.Scroll as Shift
 use Rattle.joining.specs.declared.Part.{Part}
 use Rattle.effect.specs.Effect.{partOf, latchWith, outcomeFor, effectCall}
 use Rattle.converter.specs.Below.{rowBelow}
-use Rattle.refusals.specs.Refusals.{sheetNumbers, startNumbers, shiftNumbers, drawingNumbers, effectNumbers, rowNumbers, ofSheet, ofStart, ofShift, ofRow, ofPart, ofEffect, has, within}
+use Rattle.refusals.specs.Refusals.{sheetNumbers, startNumbers, shiftNumbers, effectNumbers, rowNumbers, ofSheet, ofStart, ofShift, ofRow, ofPart, ofEffect, has, within}
 use Rattle.refusals.proofs.Refuses.{has-more, within-more, Refuses, weaken, dones, refuses, asks, bind, check-refuses, check-then, check-of-then, unless-then, if-refuses, from-shared, words-refuse, as-refuses, Told, given-told, refused-told, run-told}
 
 -- the checks on settings
@@ -89,8 +89,12 @@ module _ {ns : List ℕ} where
       check-then 6 (not (null (registered linear top))) h λ _ _.
       bind (main-refuses linear _) λ m. check-then 14 (not (enabled m && ofWindow m)) k λ _ _. dones
 
+-- The numbers that the checks of a reading refuse with: 7 is of a missing word alone, and is in none of these lists (`run-missing`).
 -- a start
-start-refuses : (latch : ℕ) (σ : Settings) → Refuses startNumbers (startFrom latch σ)
+abbrev pub startChecks : List ℕ
+startChecks = 2 ∷ 17 ∷ 6 ∷ 14 ∷ 8 ∷ []
+
+pub start-refuses : (latch : ℕ) (σ : Settings) → Refuses startChecks (startFrom latch σ)
 unfolding startFrom windowStart firstWindow
 start-refuses latch σ =
     bind (settings-refuse σ refl refl) λ _.
@@ -98,11 +102,14 @@ start-refuses latch σ =
     bind (window-refuses refl (σ .linear) 0 0 _) λ w. dones
 
 -- a shift call
-lines-refuse : (linear : Bool) (m : MainBlock) → Refuses shiftNumbers (Shift.firstLines linear m)
+abbrev pub shiftChecks : List ℕ
+shiftChecks = 2 ∷ 17 ∷ 3 ∷ 6 ∷ 14 ∷ []
+
+lines-refuse : (linear : Bool) (m : MainBlock) → Refuses shiftChecks (Shift.firstLines linear m)
 unfolding Shift.firstLines backgroundBlock rowBlockAt
 lines-refuse linear m = bind (bind (block-refuses linear true _) λ b. bind (redefined-refuses linear _ _) λ t. dones) λ g. dones
 
-shift-refuses : (σ : Settings) (soft : PointerWords) (last : Scroll) → Refuses shiftNumbers (Shift.shift σ soft last)
+pub shift-refuses : (σ : Settings) (soft : PointerWords) (last : Scroll) → Refuses shiftChecks (Shift.shift σ soft last)
 unfolding Shift.shift Shift.shiftBy Shift.edgeLines
 shift-refuses σ soft last =
     bind (settings-refuse σ refl refl) λ _.
@@ -114,7 +121,10 @@ shift-refuses σ soft last =
     dones
 
 -- a row's plan
-overlaid-refuses : (σ : Settings) (row : ℕ) (w : WindowInHand) → Refuses drawingNumbers (overlaid σ row w)
+abbrev pub drawingChecks : List ℕ
+drawingChecks = 8 ∷ 9 ∷ 10 ∷ 11 ∷ 12 ∷ 13 ∷ []
+
+overlaid-refuses : (σ : Settings) (row : ℕ) (w : WindowInHand) → Refuses drawingChecks (overlaid σ row w)
 unfolding overlaid windowRow windowRowAt
 overlaid-refuses σ row Absent = dones
 overlaid-refuses σ row (Present w) =
@@ -124,14 +134,14 @@ overlaid-refuses σ row (Present w) =
     check-then 11 (leb (total (σ .hidden) (b .segments)) (w .block .right + 1 - w .block .left)) refl λ _ _. dones)
     dones
 
-background-refuses : (σ : Settings) (f : Fields) → Refuses drawingNumbers (backgroundRow σ f)
+background-refuses : (σ : Settings) (f : Fields) → Refuses drawingChecks (backgroundRow σ f)
 unfolding backgroundRow backgroundBlock rowBlockAt
 background-refuses σ f =
     bind (bind (block-refuses (σ .linear) true (f .next)) λ b. bind (redefined-refuses (σ .linear) (b .redefinition) (f .format)) λ t. dones) λ g.
     check-of-then 9 (f .next) (allFit (g .block .segments)) refl λ _ _.
     check-of-then 10 (f .next) (leb (total (σ .hidden) (g .block .segments)) 132) refl λ _ _. dones
 
-blocks-refuse : (σ : Settings) (f : Fields) → Refuses drawingNumbers (fromBlocks σ f)
+blocks-refuse : (σ : Settings) (f : Fields) → Refuses drawingChecks (fromBlocks σ f)
 blocks-refuse σ f =
     bind (due-refuses refl (σ .linear) (f .row) (f .window)) λ w.
     bind (background-refuses σ f) λ g.
@@ -139,10 +149,10 @@ blocks-refuse σ f =
     check-then 12 (edgesFit (σ .hidden) (o .overlay) (g .block .segments)) refl λ _ _. dones
 
 -- its cells
-cells-refuse : (σ : CodeSettings) (fill : FillMode) (o : Overlay) (gs : List Segment) (d : Drawing) → Refuses drawingNumbers (rowCells σ fill o gs d)
+cells-refuse : (σ : CodeSettings) (fill : FillMode) (o : Overlay) (gs : List Segment) (d : Drawing) → Refuses drawingChecks (rowCells σ fill o gs d)
 cells-refuse σ fill o gs d = from-shared (cells-hold _ _ _ σ fill {I = λ _. Unit} {C = λ _. Unit} {S = λ _. Unit} keeps o gs d (over-any o) (any gs) tt)
   where
-    keeps : Keeps (λ _. Unit) (λ _ _. Unit) (λ x. has (x .number) drawingNumbers ≡ true) σ fill (λ _. Unit) (λ _. Unit) (λ _. Unit)
+    keeps : Keeps (λ _. Unit) (λ _ _. Unit) (λ x. has (x .number) drawingChecks ≡ true) σ fill (λ _. Unit) (λ _. Unit) (λ _. Unit)
     keeps = record {
       code = λ _ _. tt;
       further = λ _ _ _ _. tt;
@@ -161,9 +171,9 @@ cells-refuse σ fill o gs d = from-shared (cells-hold _ _ _ σ fill {I = λ _. U
     over-any none = tt
     over-any (over number first end ws) = any ws
 
--- a list with the numbers of a row from such a state: 3 where it is out of range, 4 where it has no line
+-- a list with the checks of a row from such a state: 3 where it is out of range, 4 where it has no line
 pub record Lists (ns : List ℕ) (f : Fields) : Type 0 where
-  pub drawing : within drawingNumbers ns ≡ true
+  pub drawing : within drawingChecks ns ≡ true
   pub range : inRange f ≡ false → has 3 ns ≡ true
   pub lines : ltb 0 (f .left) ≡ false → has 4 ns ≡ true
 
@@ -195,7 +205,7 @@ sheet-told σ = if-cases (λ (a : SheetAnswer). within (ofSheet a) sheetNumbers 
 
 pub start-told : (latch : ℕ) (σ : Settings) (m : List ℕ) → within (ofStart (startCall latch σ m)) startNumbers ≡ true
 unfolding startCall
-start-told latch σ m = by (run-told refl 0 m (start-refuses latch σ))
+start-told latch σ m = by (run-told refl 0 m (weaken refl (start-refuses latch σ)))
   where
     by : {o : Outcome State} → Told startNumbers o → within (ofStart (started o)) startNumbers ≡ true
     by given-told = refl
@@ -203,7 +213,7 @@ start-told latch σ m = by (run-told refl 0 m (start-refuses latch σ))
 
 pub shift-told : (σ : Settings) (m : List ℕ) (soft : PointerWords) (last : Scroll) → within (ofShift (Shift.shiftCall σ m soft last)) shiftNumbers ≡ true
 unfolding Shift.shiftCall
-shift-told σ m soft last = by (run-told refl 0 m (shift-refuses σ soft last))
+shift-told σ m soft last = by (run-told refl 0 m (weaken refl (shift-refuses σ soft last)))
   where
     by : {o : Outcome FrameShift} → Told shiftNumbers o → within (ofShift (Shift.shiftAnswered o)) shiftNumbers ≡ true
     by given-told = refl
@@ -217,9 +227,9 @@ more-told k ns n h = rw h (or-true (eqb n k))
     or-true true = refl
     or-true false = refl
 
--- the checks of a row call before those of its state
+-- the checks of a row call before those of its state, and a missing word
 abbrev pub first : List ℕ
-first = 1 ∷ 2 ∷ 17 ∷ []
+first = 1 ∷ 2 ∷ 17 ∷ 7 ∷ []
 
 pub row-told-by : (ns : List ℕ) → within first ns ≡ true → (σ : Settings) (m : List ℕ) (s : State) (buffer : List ℕ) → Lists ns (s .fields)
     → within (ofRow (rowCall σ m s buffer .answer)) ns ≡ true
@@ -227,7 +237,7 @@ unfolding rowCall
 row-told-by ns h σ m s buffer l =
     let listed = has-more first ns h in
     if-cases (λ (c : Called). within (ofRow (c .answer)) ns ≡ true) (eqb (length buffer) 132)
-    (λ _. by (run-told (has-more drawingNumbers ns (l .drawing) 7 refl) 0 m (row-refuses σ s l (listed 2 refl) (listed 17 refl))))
+    (λ _. by (run-told (listed 7 refl) 0 m (row-refuses σ s l (listed 2 refl) (listed 17 refl))))
     (λ _. one-told ns 1 (listed 1 refl))
   where
     by : {o : Outcome Row} → Told ns o → within (ofRow (answered σ (s .fields) buffer o .answer)) ns ≡ true
@@ -235,11 +245,11 @@ row-told-by ns h σ m s buffer l =
     by (refused-told {x} h) = one-told ns (x .number) h
 
 -- a list with 3 and 4 is right for any state
-pub any-state : {ns : List ℕ} → within (3 ∷ 4 ∷ drawingNumbers) ns ≡ true → (f : Fields) → Lists ns f
+pub any-state : {ns : List ℕ} → within (3 ∷ 4 ∷ drawingChecks) ns ≡ true → (f : Fields) → Lists ns f
 any-state {ns} h f = record {
-  drawing = within-more (3 ∷ 4 ∷ drawingNumbers) ns h drawingNumbers refl;
-  range = λ _. has-more (3 ∷ 4 ∷ drawingNumbers) ns h 3 refl;
-  lines = λ _. has-more (3 ∷ 4 ∷ drawingNumbers) ns h 4 refl;
+  drawing = within-more (3 ∷ 4 ∷ drawingChecks) ns h drawingChecks refl;
+  range = λ _. has-more (3 ∷ 4 ∷ drawingChecks) ns h 3 refl;
+  lines = λ _. has-more (3 ∷ 4 ∷ drawingChecks) ns h 4 refl;
 }
 
 pub row-told : (σ : Settings) (m : List ℕ) (s : State) (buffer : List ℕ) → within (ofRow (rowCall σ m s buffer .answer)) rowNumbers ≡ true

@@ -24,13 +24,13 @@ start-listed-told latch σ m list =
     if-cases (λ (x : StartListed). within (ofStart (x .answer)) startListedNumbers ≡ true) (eqb (length list) 12000)
     (λ _. within-more startNumbers startListedNumbers refl (ofStart (startCall latch σ m)) (start-told latch σ m)) (λ _. refl)
 
-pub row-listed-by : (ns : List ℕ) → within (1 ∷ 25 ∷ 2 ∷ 17 ∷ []) ns ≡ true → (σ : Settings) (m : List ℕ) (s : State) (buffer list : List ℕ)
+pub row-listed-by : (ns : List ℕ) → within (1 ∷ 25 ∷ 2 ∷ 17 ∷ 7 ∷ []) ns ≡ true → (σ : Settings) (m : List ℕ) (s : State) (buffer list : List ℕ)
     → Lists ns (s .fields) → within (ofRow (rowListed σ m s buffer list .answer)) ns ≡ true
 unfolding rowListed
 row-listed-by ns h σ m s buffer list l =
-    let told = row-told-by ns (within-more (1 ∷ 25 ∷ 2 ∷ 17 ∷ []) ns h (1 ∷ 2 ∷ 17 ∷ []) refl) σ m s buffer l in
+    let told = row-told-by ns (within-more (1 ∷ 25 ∷ 2 ∷ 17 ∷ 7 ∷ []) ns h (1 ∷ 2 ∷ 17 ∷ 7 ∷ []) refl) σ m s buffer l in
     if-cases Told (eqb (length buffer) 132)
-    (λ _. if-cases Told (eqb (length list) 12000) (λ _. told) (λ _. within-more (1 ∷ 25 ∷ 2 ∷ 17 ∷ []) ns h (25 ∷ []) refl)) (λ _. told)
+    (λ _. if-cases Told (eqb (length list) 12000) (λ _. told) (λ _. within-more (1 ∷ 25 ∷ 2 ∷ 17 ∷ 7 ∷ []) ns h (25 ∷ []) refl)) (λ _. told)
   where
     Told : RowListed → Type 0
     Told x = within (ofRow (x .answer)) ns ≡ true

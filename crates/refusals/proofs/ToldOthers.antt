@@ -41,7 +41,7 @@ use Rattle.converter.specs.Walk.{wordOf, readOn, shared, marked, Walked, went, 
 use Rattle.converter.specs.Below.{stateAfter}
 use Rattle.converter.specs.Converter.{Followed, ended, stopped, onwards, followRows, follow, Called, convertBy, convertCall}
 use Rattle.refusals.specs.Refusals.{startNumbers, besideNumbers, mendNumbers, convertNumbers, ofStart, ofRow, ofBeside, ofMend, ofConvert, has, within}
-use Rattle.refusals.proofs.Refuses.{within-more, Refuses, dones, refuses, asks, bind, Told, given-told, refused-told, run-told}
+use Rattle.refusals.proofs.Refuses.{within-more, Refuses, weaken, dones, refuses, asks, bind, Told, given-told, refused-told, run-told}
 use Rattle.refusals.proofs.Told.{settings-refuse, window-refuses, top-refuses, below-refuses, one-told, start-told, row-told-by}
 use Rattle.refusals.proofs.ToldListed.{row-listed-by}
 
@@ -126,7 +126,7 @@ beside-told σ m shift soft latch last buffer list =
 
 -- ---- a mending step ----
 
-main-refuses : (σ : Settings) → Refuses mendNumbers (mainOf σ)
+pub main-refuses : (σ : Settings) → Refuses (2 ∷ 17 ∷ 6 ∷ 14 ∷ []) (mainOf σ)
 unfolding mainOf
 main-refuses σ = bind (settings-refuse σ refl refl) λ _. top-refuses refl refl (σ .linear) (σ .top)
 
@@ -144,7 +144,7 @@ mend-told latch σ m b regs = by (verdict-fair σ m b regs latch)
 
     by : {v : Verdict} → Fair σ m b regs latch v → within (ofMend (byVerdict σ m v .answer)) mendNumbers ≡ true
     by (judged h) = rows h
-    by (as-it-is e) = main (run-told refl 0 m (main-refuses σ)) e
+    by (as-it-is e) = main (run-told refl 0 m (weaken refl (main-refuses σ))) e
 
 -- ---- a conversion ----
 
