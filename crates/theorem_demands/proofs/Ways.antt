@@ -4,13 +4,13 @@ use mathlib.Core.Bool.{true, false}
 use mathlib.Core.List.{List, [], _∷_}
 use Prim.Native.Nat.{ℕ, _/_, _<_, _≤_}
 use native.Mathlib.Omega.{arith}
-use lib.ListN.{length, drop}
+use lib.ListN.{length}
 use Rattle.memory.specs.Word.{at}
 use Rattle.memory.specs.declared.Refusal.{Refusal}
 use Rattle.answers.specs.AnswerNumbers.{withRefusal}
 use Rattle.refusals.specs.Refusals.{has}
 use Rattle.refusals.proofs.Told.{more-told}
-use Rattle.theorem_demands.specs.Demands.{Done, done, Refused, Kept, Tells, Silent, Outside, Inside}
+use Rattle.theorem_demands.specs.Demands.{Done, done, Refused, Kept, afterThree, Tells, Silent, Outside, Inside}
 
 pub apart : {A : Type 0} → true ≡ false → A
 apart e = let z : _≡_ {A = ℕ} 0 1 = cc in absurd (omega arith)
@@ -23,7 +23,7 @@ other ns n k h z e = apart (sym (rw e at h) ∙ z)
 pub record Begins (r : Refusal) (answer xs : List ℕ) : Type 0 where
   pub row : at xs 0 ≡ r .row
   pub address : at xs 1 ≡ r .address
-  pub rest : drop 3 xs ≡ drop 3 answer
+  pub rest : afterThree xs ≡ afterThree answer
 
 pub begins : (r : Refusal) (answer : List ℕ) → 3 ≤ length answer → Begins r answer (withRefusal r answer)
 begins r [] h = absurd (omega arith)

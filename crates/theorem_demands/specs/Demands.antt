@@ -27,7 +27,7 @@ use Rattle.bus.specs.declared.BusRow.{BusRow}
 use Rattle.bus.specs.Numbers.{Called}
 use Rattle.writer.specs.declared.Span.{Span}
 use Rattle.mail_answers.specs.AfterMail.{Lent}
-use Rattle.numbers.specs.Decode.{settingsAt, stateAt}
+use Rattle.numbers.specs.Decode.{settingsAt, stateAt, isState}
 use Rattle.answers.specs.AnswerNumbers.{sheetNumbers}
 use Rattle.answers.specs.AfterCall.{Answered, answered, Stated}
 use Rattle.answers.specs.Changing.{Left}
@@ -43,8 +43,8 @@ use Rattle.thagaduvin_mend.specs.MendCalls.{hostMend}
 use Rattle.thagaduvin_convert.specs.ConvertCalls.{hostConvert}
 use Rattle.refusals.specs.Refusals as Refusals
 use Rattle.refusals.specs.Refusals.{has}
-use Rattle.read_back.specs.ReadBack.{Words}
-use Rattle.calls_alone.specs.DemandCalls.{noEffect, Demand3Calls}
+use Rattle.read_back.specs.ReadBack.{Words, Numbers}
+use Rattle.calls_alone.specs.DemandCalls.{Call, noEffect, inTurn, drawnAlone}
 
 -- ---- 1. "Hand it settings, memory and a row buffer in any condition and it ends, reading nothing outside what was lent." That each call ends
 -- and reads nothing else is what the prover shows of every function, for any slices. "Bad input is refused with a number, a row and an address.
@@ -100,10 +100,13 @@ pub record Kept (numbers : List ℕ) (others : List (List ℕ)) (answer : List �
   pub stays : Refused d → d .others ≡ others
 
 -- .. whose answer begins with "a row and an address", and where the pointer of a refusal 7 begins: the places after these three stay
+abbrev pub afterThree : List ℕ → List ℕ
+afterThree answer = drop 3 answer
+
 pub record Tells (row : ℕ) (numbers : List ℕ) (others : List (List ℕ)) (answer : List ℕ) (d : Done) : Type 0 where
   pub kept : Kept numbers others answer d
   pub told : Refused d → at (d .answer) 0 ≡ row
-  pub rest : Refused d → drop 3 (d .answer) ≡ drop 3 answer
+  pub rest : Refused d → afterThree (d .answer) ≡ afterThree answer
 
 -- .. whose refusal writes nothing at all
 pub record Silent (numbers : List ℕ) (others : List (List ℕ)) (answer : List ℕ) (d : Done) : Type 0 where
@@ -137,6 +140,7 @@ pub record Demand1 : Type 0 where
   pub beside : (settings m : List ℕ) (shift : ℤ) (soft : PointerWords) (latch : ℕ) (state cells list answer : List ℕ)
       → Tells (if ltZ (pos 0) shift then at state 1 else 0) Refusals.besideNumbers (cells ∷ list ∷ []) answer
       (ofBeside (hostBeside settings m shift soft latch state cells list answer))
+  -- on a memory of 16-bit words, which a lent one has
   pub mend : (settings m : List ℕ) (latch : ℕ) (answer : List ℕ) → Words m
       → Tells 0 Refusals.mendNumbers (settings ∷ m ∷ []) answer (ofChange (hostMend settings m latch answer))
   -- a conversion's marks may change too; the one place of its answer after the three is 0
@@ -206,6 +210,7 @@ pub record ByRules (σ : Settings) (m : List ℕ) (s : State) (x : DrawnListed) 
   pub few : at (x .answer) 7 < 12000
 
 pub record Demand2 : Type 0 where
+  -- on a memory of 16-bit words, which a lent one has
   pub row : (settings m state cells list answer : List ℕ) → Words m → hostRow settings m state cells list answer .status ≡ 0
       → ByRules (settingsAt settings) m (stateAt state) (hostRow settings m state cells list answer)
   -- "The sync and blanking counts"
@@ -229,8 +234,11 @@ abbrev pub Room : List ℕ → Type 0
 Room joined = length joined ≡ 12
 
 pub record Demand3 : Type 0 where
-  -- "the call gives this same first refusal", or "the row drawn alone from the attribute they give has the call's whole answer"
-  pub alone : Demand3Calls
+  -- On settings' 18 numbers, a memory of 16-bit words and a state's 32-bit numbers: what the row calls give, "each goes on from the state that
+  -- the last one gave or left" (`inTurn`), is what each gives by the joined effects of the rows above it, applied to "the attribute that the
+  -- list began with", the state's number 0: "this same first refusal", or "the row drawn alone from the attribute they give" (`drawnAlone`)
+  pub alone : (settings m state : List ℕ) → length settings ≡ 18 → Words m → Numbers state → isState state ≡ true → (calls : List Call)
+      → inTurn settings m state calls ≡ drawnAlone settings m (at state 0) state noEffect calls
   -- "joined in any grouping with the same outcome"
   pub grouping : (a b c : List ℕ) → IsEffect a → IsEffect b → IsEffect c → (p q r s : List ℕ) → Room p → Room q → Room r → Room s
       → hostJoin (hostJoin a b p .answer) c q ≡ hostJoin a (hostJoin b c r .answer) s
