@@ -21,20 +21,25 @@ use Rattle.windows.specs.declared.WindowInHand.{WindowInHand}
 use Rattle.windows.specs.declared.WindowInHand.the-variants.{Absent, Present}
 use Rattle.windows.specs.Window.{twoPointers, inOrder, windowOf, windowAt}
 use Rattle.state.specs.State.{formatInRange}
+use Rattle.holding.proofs.Holds.{Each}
 use Rattle.blame.proofs.Comes.{as-comes, Comes, dones, bind, check-then, if-comes}
 use Rattle.blame.proofs.Standing.{Held, Stands, address, stands, null-stands, nothing-stands, From, words-come, later, ahead-address}
 
 module _ (m : List ℕ) (b : Words m) (linear : Bool) where
+  abbrev pub SegmentStands : Segment → Type 0
+  SegmentStands g = Stands m b linear (g .codes) × Stands m b linear (g .attributes)
+
   abbrev pub SegmentsStand : List Segment → Type 0
-  SegmentsStand [] = Unit
-  SegmentsStand (g ∷ gs) = Stands m b linear (g .codes) × Stands m b linear (g .attributes) × SegmentsStand gs
+  SegmentsStand gs = Each SegmentStands gs
 
   segments-stand : (n a : ℕ) (ws : List ℕ) → isAddress a ≡ true → From m b linear (5 * n) a ws → SegmentsStand (segmentsAt linear a n ws)
   unfolding segmentsAt segmentOf ahead
   segments-stand zero a ws h e = tt
   segments-stand (suc n) a ws h e = (
-    stands m b linear a _ _ h (e 0 (omega arith)) (e 1 (omega arith)),
-    stands m b linear (ahead linear 2 a) _ _ (ahead-address m b linear 2 a h) (e 2 (omega arith)) (e 3 (omega arith)),
+    (
+      stands m b linear a _ _ h (e 0 (omega arith)) (e 1 (omega arith)),
+      stands m b linear (ahead linear 2 a) _ _ (ahead-address m b linear 2 a h) (e 2 (omega arith)) (e 3 (omega arith)),
+    ),
     segments-stand n (ahead linear 5 a) (drop 5 ws) (ahead-address m b linear 5 a h) (later m b linear (5 * n) a ws λ i l. e i (omega arith)),
   )
 

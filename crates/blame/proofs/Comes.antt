@@ -11,6 +11,7 @@ use Rattle.memory.specs.declared.Pointer.{Pointer}
 use Rattle.memory.specs.Word.{if_then_else_}
 use Rattle.memory.specs.Reading.{Role, readAs, Ask, Reading, done, refuse, ask, absent, blaming, _>>=_, checkOf, each, Outcome, given, refused, runFrom}
 use Rattle.memory.proofs.ReadBounds.{if-cases}
+use Rattle.holding.proofs.Holds as Shared
 
 module _ (m : List ℕ) (Q : Fault → Type 0) where
   pub data Comes {A : Type 0} (P : A → Type 0) : Reading A → Type 0 where
@@ -24,6 +25,12 @@ module _ (m : List ℕ) (Q : Fault → Type 0) where
   bind (dones {a} h) f = f a h
   bind (refuses h) f = refuses h
   bind (asks h g) f = asks h (bind g f)
+
+  -- of what is known of every word
+  pub from-shared : {A : Type 0} {P : A → Type 0} {p : Reading A} → Shared.Holds (λ q. Q (absent q)) (λ q w. w ≡ getD m (q .address / 2) 0) Q P p → Comes P p
+  from-shared (Shared.dones h) = dones h
+  from-shared (Shared.refuses h) = refuses h
+  from-shared (Shared.asks h g) = asks h (from-shared (g _ refl))
 
   -- what a word is read as is not looked at
   pub as-comes : {A : Type 0} {P : A → Type 0} (rs : List Role) {p : Reading A} → Comes P p → Comes P (readAs rs p)

@@ -38,8 +38,9 @@ use Rattle.blame.specs.declared.Place.the-variants.{Register, Memory}
 use Rattle.blame.specs.Blame.{firstWord, secondWord, leader, blamed, mendable}
 use Rattle.blame.proofs.Comes.{Comes, dones, bind, check-then, if-comes}
 use Rattle.blame.proofs.Standing.{Held, Stands, address}
-use Rattle.blame.proofs.BlocksStand.{SegmentsStand, BlockStands, block-stands, format-stands, WindowStands, HandStands, window-stands}
-use Rattle.blame.proofs.CellsStand.{OverlayStands, cells-stand}
+use Rattle.blame.proofs.BlocksStand.{SegmentStands, SegmentsStand, BlockStands, block-stands, format-stands, WindowStands, HandStands, window-stands}
+use Rattle.blame.proofs.CellsStand.{cells-stand}
+use Rattle.holding.proofs.CellsHold.{EachOver}
 
 module _ (σ : Settings) (m : List ℕ) (b : Words m) where
   -- the words of the pointer at a place are not both 0
@@ -132,7 +133,7 @@ module _ (σ : Settings) (m : List ℕ) (b : Words m) where
     Shown (over number first end ws) = HeldAt led
 
     abbrev Laid : Overlaid → Type 0
-    Laid o = OverlayStands m b (σ .linear) (o .overlay) × Shown (o .overlay) × LedTo led (o .window)
+    Laid o = EachOver (SegmentStands m b (σ .linear)) (o .overlay) × Shown (o .overlay) × LedTo led (o .window)
 
     overlaid-stands : (at : ℕ) (w : WindowInHand) → LedTo led w → Comes m Mends Laid (overlaid σ at w)
     unfolding overlaid windowRow windowRowAt allFit
@@ -162,7 +163,7 @@ module _ (σ : Settings) (m : List ℕ) (b : Words m) where
     pub record Planned (p : Plan) : Type 0 where
       pub ready : Ready led (p .next)
       pub segments : SegmentsStand m b (σ .linear) (p .segments)
-      pub overlay : OverlayStands m b (σ .linear) (p .overlay)
+      pub overlay : EachOver (SegmentStands m b (σ .linear)) (p .overlay)
 
     -- once the window in hand is read, and the state's checks are passed
     blocks-stand : (f : Fields) → FieldsStand f → 0 < f .left → (w : WindowInHand) → LedTo led w

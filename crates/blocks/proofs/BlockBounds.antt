@@ -1,5 +1,4 @@
 -- How many words the blocks are read with, and what holds of them: at most 15 segments, lengths of a byte.
-use mathlib.Core.Path.{_≡_}
 use mathlib.Core.Bool.{Bool, true, false, _&&_}
 use mathlib.Core.List.{List, [], _∷_}
 use Prim.Native.Nat.{ℕ, zero, suc, _+_, _*_, _%_, _≤_, zero-le}
@@ -7,13 +6,12 @@ use native.Mathlib.Omega.{arith}
 use native.Mathlib.Nat.{le-refl}
 use lib.ListN.{length, drop}
 use lib.Seq.{getD-drop}
-use lib.Dec.{ltb, leb, lit≤}
-use borrow.Author.Tests.{leb-true}
+use lib.Dec.{lit≤}
 use Rattle.memory.specs.declared.Pointer.{Pointer}
 use Rattle.memory.specs.Word.{if_then_else_, bit, at}
 use Rattle.memory.specs.Reading.{onePointer}
 use Rattle.memory.specs.Address.{null, ahead, further}
-use Rattle.memory.proofs.ReadBounds.{Words, Reads, dones, weaken, bind, check-reads, if-reads, both, words-read}
+use Rattle.memory.proofs.ReadBounds.{Words, Reads, dones, weaken, bind, if-reads, words-read}
 use Rattle.memory.proofs.Roles.{as-reads}
 use Rattle.blocks.specs.declared.Segment.{Segment}
 use Rattle.blocks.specs.declared.RowFormat.{RowFormat}

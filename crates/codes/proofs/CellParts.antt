@@ -12,15 +12,15 @@ source-small source = omega arith
 module _ (source : Source) (attribute code : ℕ) (h : code < 256) where
   pub code-back : codeOf (cell source attribute code) ≡ code
   unfolding cell
-  code-back = omega (arith, h)
+  code-back = omega arith
 
   pub attribute-back : attributeOf (cell source attribute code) ≡ attribute % 2 ^ 11
   unfolding cell
-  attribute-back = omega (arith, h)
+  attribute-back = omega arith
 
   pub source-back : sourceOf (cell source attribute code) ≡ sourceNumber source
   unfolding cell
-  source-back = omega (arith, h, source-small source)
+  source-back = omega (arith, source-small source)
 
   pub window-back : windowNumberOf (cell source attribute code) ≡ windowNumber source
   unfolding cell

@@ -39,7 +39,7 @@ module _ (σ : CodeSettings) where
   character-inked source end attribute code d h =
       if-cases (Inked end) ((σ .hidden || not (ignores attribute)) && ltb (d .pen .column) end)
       (λ e. let k = put-at 1 (cell source attribute code) (d .pen .column + 1) d (h .0) refl in
-      (k .0, omega (arith, k .1, ltb-true (d .pen .column) end (both (σ .hidden || not (ignores attribute)) (ltb (d .pen .column) end) e .1))))
+      (k .0, omega (arith, ltb-true (d .pen .column) end (both (σ .hidden || not (ignores attribute)) (ltb (d .pen .column) end) e .1))))
       (λ _. h)
 
   pub examine-reads : (source : Source) (end code : ℕ) (d : Drawing) → Inked end d → Reads (Inked end) 1 (examine σ source end code d)

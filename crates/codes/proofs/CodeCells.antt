@@ -1,6 +1,6 @@
 -- What holds of every cell that a source makes holds of every cell that the codes of a segment put into a row.
 use mathlib.Core.Bool.{_&&_, _||_, not}
-use mathlib.Core.List.{List, [], _∷_, _++_}
+use mathlib.Core.List.{List, _++_}
 use Prim.Native.Nat.{ℕ, zero, suc, _<_}
 use native.Mathlib.Omega.{arith}
 use lib.ListN.{replicate}

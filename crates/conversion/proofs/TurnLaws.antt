@@ -50,6 +50,6 @@ pub changes-more : (i v : ℕ) (m n : List ℕ) → i < length m → length n �
 unfolding changes
 changes-more i v [] n l e h = absurd (omega arith)
 changes-more i v (w ∷ m) [] l e h = absurd (omega arith)
-changes-more zero v (w ∷ m) (x ∷ n) l e h = let same : change w x ≡ 0 = rw h (kept w) in omega (arith, same)
+changes-more zero v (w ∷ m) (x ∷ n) l e h = let same : change w x ≡ 0 = rw h (kept w) in omega arith
 changes-more (suc i) v (w ∷ m) (x ∷ n) l e h =
     ap (λ (k : ℕ). change w x + k) (changes-more i v m n (omega arith) (omega arith) h) ∙ sym (add-assoc (change w x) (changes m n) (change (getD m i 0) v))

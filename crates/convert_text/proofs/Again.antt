@@ -64,10 +64,10 @@ module _ (σ : Settings) where
 -- ---- the settings ----
 module _ (σ : Settings) (r : SettingsRange σ) where
   sync-low : syncRegister σ % 64 ≡ σ .vsw
-  sync-low = omega (arith, r .vsw, r .vsd)
+  sync-low = omega arith
 
   sync-high : syncRegister σ / 64 % 64 ≡ σ .vsd
-  sync-high = omega (arith, r .vsw, r .vsd)
+  sync-high = omega arith
 
   settings-again : setAll (registers σ) (switched (switches σ) unset) ≡ σ
   unfolding registers registered switched unset
@@ -100,22 +100,22 @@ module _ (σ : Settings) (r : SettingsRange σ) where
                   sync,
                   (
                     lit≤ tt,
-                    omega (arith, r .val),
+                    omega arith,
                     (
                       lit≤ tt,
-                      omega (arith, r .vtot),
+                      omega arith,
                       (
                         lit≤ tt,
-                        omega (arith, r .hsync),
+                        omega arith,
                         (
                           lit≤ tt,
-                          omega (arith, r .hsd),
+                          omega arith,
                           (
                             lit≤ tt,
-                            omega (arith, r .htc),
+                            omega arith,
                             (
                               lit≤ tt,
-                              omega (arith, r .htd),
+                              omega arith,
                               tt,
                             ),
                           ),
@@ -147,7 +147,7 @@ module _ (σ : Settings) (m : List ℕ) (r : Ranged σ m) where
   before-draw : Leads (headText σ ++ wordsText 0 m) unset (replicate (length m) 0) σ m
   before-draw =
       in-turn (head-leads σ (r .settings) (replicate (length m) 0))
-      (words-lead m [] 0 refl (omega (arith, r .memory .size)) (r .memory .words) σ)
+      (words-lead m [] 0 refl (omega arith) (r .memory .words) σ)
 
   from-zeros : (zeros : List ℕ) → zeros ≡ replicate (length m) 0
       → records (length (written σ m)) (length (written σ m)) 0 unset zeros (written σ m) ≡ drawn σ m

@@ -11,7 +11,7 @@ use Rattle.memory.specs.declared.Fault.{Fault}
 use Rattle.memory.specs.declared.Pointer.{Pointer}
 use Rattle.memory.specs.Word.{if_then_else_}
 use Rattle.memory.specs.Reading.{Role, Ask, Reading, done, refuse, ask, _>>=_, inRole, readAs, nobody, checkOf, check, each}
-use Rattle.told.proofs.Tells.{Each}
+use Rattle.holding.proofs.Holds.{Each}
 use Rattle.converter.specs.Walk.{mark, wordOf, readOn}
 use Rattle.converter.specs.Converter.{turned}
 

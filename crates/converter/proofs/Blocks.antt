@@ -18,7 +18,8 @@ use Rattle.blocks.specs.RowBlock.{RowBlock, segmentOf, segmentsAt, segmentRoles
 use Rattle.windows.specs.declared.WindowInHand.{WindowInHand}
 use Rattle.windows.specs.declared.WindowInHand.the-variants.{Absent, Present}
 use Rattle.windows.specs.Window.{windowOf, twoPointers, inOrder, windowAt, dueWindow}
-use Rattle.told.proofs.Tells.{apart, Each}
+use Rattle.told.proofs.Tells.{apart}
+use Rattle.holding.proofs.Holds.{Each}
 use Rattle.converter.proofs.Alike.{Same, Alike, dones, bind, check-of-then, if-alike}
 use Rattle.converter.proofs.Pointers.{Stands, Near, first-stood, Read, Copied, copied-drop, pointer-same, pointer-stands, Passed, words-alike}
 

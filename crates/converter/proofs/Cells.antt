@@ -23,8 +23,9 @@ use Rattle.codes.specs.declared.Source.{Source}
 use Rattle.codes.specs.Attribute.{Fill, Background, Window, invokes, latches, ignores, cell}
 use Rattle.codes.specs.Codes.{Drawing, drawing, listAt, noList, withList, blank, taking, put, character, examine, wordCodes, codes}
 use Rattle.cells.specs.Cells.{codeCount, filled, fillByWord, fillTo, segment, segmentsTo, rowCells}
-use Rattle.told.proofs.Tells.{apart, Each}
-use Rattle.told.proofs.Cells.{any, on-side}
+use Rattle.told.proofs.Tells.{apart}
+use Rattle.holding.proofs.Holds.{Each}
+use Rattle.holding.proofs.CellsHold.{any, on-side}
 use Rattle.converter.specs.Walk.{wordOf}
 use Rattle.converter.proofs.Alike.{Alike, dones, refuses, asks, bind, if-alike, each-alike}
 use Rattle.converter.proofs.Pointers.{Stands, Near, first-stood, later, onward-near}

@@ -27,7 +27,7 @@ use Rattle.codes.specs.Codes.{Drawing, blank}
 use Rattle.start.specs.Top.{registered, enabled, ofWindow, topBlock}
 use Rattle.start.specs.Start.{firstFields, windowStart}
 use Rattle.row.specs.Row.{Row, drawnBy}
-use Rattle.told.proofs.Tells.{Each}
+use Rattle.holding.proofs.Holds.{Each}
 use Rattle.converter.specs.Walk.{pointsAt}
 use Rattle.converter.specs.Below.{rowBelow}
 use Rattle.converter.specs.Converter.{turnedRegister, turnedSettings}

@@ -1,6 +1,6 @@
 -- The walk of a row and of a frame, from the walks of their parts.
 use mathlib.Core.Path.{_≡_, refl, ap, sym, _∙_}
-use mathlib.Core.Bool.{Bool, true, false}
+use mathlib.Core.Bool.{Bool, false}
 use mathlib.Core.List.{List}
 use Prim.Native.Nat.{ℕ, zero, suc, _-_, _<_}
 use native.Mathlib.Omega.{arith}
@@ -46,7 +46,7 @@ use Rattle.following.specs.Answers.{stateOfWalk}
 -- a window that passed checks 8 and 11 has its columns within the row
 narrow-by : (hidden l : Bool) (o : OverlayHead) (ws : List ℕ) → Inside hidden (overlayOf l o ws) → Narrow o
 narrow-by hidden l NoOverlay ws h = tt
-narrow-by hidden l (Over number first end count) ws h = (omega (arith, h .1, h .2), h .2)
+narrow-by hidden l (Over number first end count) ws h = (omega arith, h .2)
 
 pub narrow : (σ : Settings) (m : List ℕ) → Words m → (f : Fields) {n : ℕ} (p : PlanHead) (bs os : List ℕ)
     → given n (planOf (σ .linear) p bs os) ≡ run m (fromState σ f) → Narrow (p .overlay)
@@ -96,7 +96,7 @@ module _ (σ : Settings) (m marks : List ℕ) where
       let list : marks₁ ≡ marks₂ = cc in
       let state : s₁ ≡ stateAfter r = cc in
       rw (list, state)
-  by-went row (halted y) k e = let q : _≡_ {A = ℕ} 0 1 = cc in absurd (omega (arith, q))
+  by-went row (halted y) k e = let q : _≡_ {A = ℕ} 0 1 = cc in absurd (omega arith)
 
   module _ (s : State) where
     pub rows-none : (n : ℕ) → n ≡ 0 → ended marks ≡ followRows n σ m marks s
@@ -151,7 +151,7 @@ module _ (σ : Settings) (m marks : List ℕ) where
         (e : given 7 b ≡ run m (topBlock (σ .linear) (σ .top))) where
       start-refused : {r : Refusal} (o : Outcome State) → runFrom 7 m (windowStart latch σ b) ≡ o → Start.Refused r ≡ started o
           → stopped r ≡ followWindow latch σ m marks b
-      start-refused (given n s) h g = let q : _≡_ {A = ℕ} 0 1 = cc in absurd (omega (arith, q))
+      start-refused (given n s) h g = let q : _≡_ {A = ℕ} 0 1 = cc in absurd (omega arith)
       start-refused {r} (refused x) h g =
           let same : r ≡ refusal 0 x = cc in
           ap stopped same ∙ sym (ap (λ w. onwards 0 w rows) (joined-refused tow m marks (windowStart latch σ b) 7 (window-trail ∙ t) h)) ∙ at-tow
@@ -164,7 +164,7 @@ module _ (σ : Settings) (m marks : List ℕ) where
         where
           accepted : {a c : Started} → Start.Accepted a ≡ Start.Accepted c → a ≡ c
           accepted e = cc
-      start-given (refused x) h g = let q : _≡_ {A = ℕ} 0 1 = cc in absurd (omega (arith, q))
+      start-given (refused x) h g = let q : _≡_ {A = ℕ} 0 1 = cc in absurd (omega arith)
 
       pub window-refused : {r : Refusal} → Start.Refused r ≡ started (run m (mainStart latch σ)) → stopped r ≡ followWindow latch σ m marks b
       window-refused g = start-refused (runFrom 7 m (windowStart latch σ b)) refl (g ∙ ap started (main-run e))

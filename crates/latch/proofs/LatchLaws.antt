@@ -9,7 +9,7 @@ use native.Mathlib.Numerals.{add-one}
 use lib.ListN.{length, getD}
 use lib.Dec.{ltb}
 use Rattle.memory.specs.Word.{if_then_else_, high, low}
-use Rattle.memory.specs.Reading.{Reading, _>>=_, each, Outcome, given, refused, runFrom}
+use Rattle.memory.specs.Reading.{Reading, _>>=_, each, Outcome, given, runFrom}
 use Rattle.memory.specs.declared.Pointer.{Pointer}
 use Rattle.memory.specs.Address.{null, ahead, further}
 use Rattle.memory.specs.Answers.{isRun}
@@ -23,7 +23,7 @@ use Rattle.layout.specs.Layout.{width, Overlay, none, over}
 use Rattle.codes.specs.declared.Source.{Source}
 use Rattle.codes.specs.declared.AttributeList.{AttributeList}
 use Rattle.codes.specs.Attribute.{Background, Window, invokes, latches, ignores}
-use Rattle.codes.specs.Codes.{Drawing, drawing, listAt, noList, blank, withList, taking, put, character, examine, wordCodes, codes}
+use Rattle.codes.specs.Codes.{Drawing, listAt, noList, blank, withList, taking, put, character, examine, wordCodes, codes}
 use Rattle.cells.specs.Cells.{codeCount}
 use Rattle.cells.specs.Cells.{filled, fillTo, segment, segmentsTo, rowCells}
 use Rattle.codes.proofs.CodeLaws.{examine-word, examine-latch}

@@ -77,7 +77,7 @@ module _ (hidden : Bool) where
   before-total first s (g ∷ gs) (c, cs) =
       let ih = before-total first (s + width hidden g) gs cs in
       if-cases (λ r. s + total hidden r ≤ max s first) (ltb s first)
-      (λ e. omega (arith, c (ltb-true s first e))) (λ e. omega (arith, ltb-false s first e))
+      (λ e. omega (arith, c (ltb-true s first e))) (λ e. omega arith)
 
   -- where all segments end by a limit, those after a window also do when they are drawn from the window's end on
   pub after-total : (limit first end s : ℕ) (gs : List Segment) → Clear end s gs → max s end ≤ limit → s + total hidden gs ≤ limit

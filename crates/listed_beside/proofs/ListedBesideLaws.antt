@@ -1,20 +1,19 @@
 -- What the row beside the cut leaves in its list: a law for each way through its definitions.
 use mathlib.Core.Path.{_≡_, refl, ap, ap₂, sym, _∙_}
 use mathlib.Core.List.{List, _++_}
-use Prim.Native.Nat.{ℕ, _+_, _<_, _≤_}
+use Prim.Native.Nat.{ℕ, _+_, _≤_}
 use native.Mathlib.Omega.{arith}
 use lib.ListN.{length, length-append}
 use lib.Seq.{sets}
 use borrow.Author.Tests.{eq-eqb, ne-eqb}
 use Rattle.memory.specs.declared.Refusal.{Refusal}
-use Rattle.memory.specs.Reading.{Reading, _>>=_, Outcome, given, refused, fault, refusal, runFrom, run, asked}
+use Rattle.memory.specs.Reading.{Reading, _>>=_, Outcome, given, refused, fault, refusal, run, asked}
 use Rattle.memory.proofs.Laws.{bind-given, bind-refused, after, run-after}
 use Rattle.memory.proofs.ReadBounds.{Words, reads-asked}
 use Rattle.settings.specs.declared.Settings.{Settings}
 use Rattle.state.specs.declared.State.{State}
 use Rattle.state.specs.State.{stateOf}
 use Rattle.start.specs.declared.Started.{Started}
-use Rattle.start.specs.declared.StartAnswer.{StartAnswer}
 use Rattle.start.specs.declared.StartAnswer.the-variants as Start
 use Rattle.start.specs.Start.{startFrom, started, startCall}
 use Rattle.row.specs.declared.RowAnswer.{RowAnswer}
@@ -22,12 +21,12 @@ use Rattle.row.specs.declared.RowAnswer.the-variants as Row
 use Rattle.row.proofs.RowBound.{row-reads}
 use Rattle.row.specs.Row.{Row, row, Called, called, answered, rowCall}
 use Rattle.beside.specs.declared.BesideAnswer.the-variants.{Refused}
-use Rattle.beside.specs.Beside.{told, besideCalled, withOneLine, rowAbove}
+use Rattle.beside.specs.Beside.{told, withOneLine}
 use Rattle.beside.proofs.BesideLaws as Beside
 use Rattle.addresses.specs.Addresses.{startAddresses}
 use Rattle.addresses.proofs.PlaceLaws.{sets-append}
 use Rattle.addresses.proofs.Asked.{asked-start}
-use Rattle.listed.specs.Listed.{written, listAfter, rowWith, rowListed}
+use Rattle.listed.specs.Listed.{listAfter, rowWith, rowListed}
 use Rattle.listed.specs.Answers.{placed}
 use Rattle.listed.proofs.ListedLaws.{sets-written, words-asked, asked-bind, sets-before}
 use Rattle.listed_beside.specs.ListedBeside.{besideWith, toldListed, aboveWith, belowListed, aboveListed}

@@ -1,10 +1,10 @@
 -- What the cells of a text are.
-use mathlib.Core.Path.{_≡_, refl, sym, ap, _∙_}
-use mathlib.Core.Bool.{Bool, true, false}
+use mathlib.Core.Path.{_≡_, refl, _∙_}
+use mathlib.Core.Bool.{true, false}
 use mathlib.Core.List.{List, [], _∷_, map}
-use Prim.Native.Nat.{ℕ, zero, suc, _+_, _-_, _*_, _/_, _%_, _<_, _≤_}
+use Prim.Native.Nat.{ℕ, _-_, _<_, _≤_}
 use native.Mathlib.Omega.{arith}
-use lib.ListN.{length, take, length-map, length-take}
+use lib.ListN.{length, take, length-map}
 use lib.Seq.{length-take-le}
 use borrow.Author.Tests.{lt-ltb, le-leb}
 use Rattle.memory.proofs.ReadBounds.{if-cases}
@@ -14,7 +14,7 @@ use Rattle.settings.specs.declared.Interlace.the-variants.{Progressive}
 use Rattle.settings.specs.declared.Settings.{Settings}
 use Rattle.settings.specs.Good.{good, shownColumns}
 use Rattle.settings.proofs.GoodLaws.{ordered}
-use Rattle.mail.specs.Mail.{isCharacter, characterFor, marksFor, characterOf, marksOf, textCell, shownCells}
+use Rattle.mail.specs.Mail.{isCharacter, characterFor, marksFor, textCell, shownCells}
 use Rattle.mail.specs.Texts.{Each, IsCell, RowCells}
 use Rattle.mail.proofs.TextLaws.{text-character, text-marks}
 
@@ -38,10 +38,10 @@ pub shown-are-cells : (σ : Settings) (cells : List ℕ) → good σ ≡ true �
 shown-are-cells σ cells g h =
     let o = ordered σ g in
     let n : length (shownCells σ cells) ≡ shownColumns σ =
-    length-map (take (shownColumns σ) cells) textCell ∙ length-take-le (shownColumns σ) cells (omega (arith, o .columns)) in
+    length-map (take (shownColumns σ) cells) textCell ∙ length-take-le (shownColumns σ) cells (omega arith) in
     record {
-      some = omega (arith, o .hsd-htd);
-      most = omega (arith, o .columns);
+      some = omega arith;
+      most = omega arith;
       each = each-map (take (shownColumns σ) cells);
     }
 

@@ -1,21 +1,20 @@
 -- The longest text that a row can have: 1,593 bytes. A change to all four marks takes 12 bytes, any other at most 10, and after a cell with all
 -- four there is none to all four.
-use mathlib.Core.Path.{_≡_, refl, sym, ap, _∙_}
+use mathlib.Core.Path.{_≡_, refl, sym, _∙_}
 use mathlib.Core.Bool.{Bool, true, false}
-use mathlib.Core.List.{List, [], _∷_, _++_, map}
+use mathlib.Core.List.{List, [], _∷_}
 use Prim.Native.Nat.{ℕ, zero, suc, _+_, _*_, _<_, _≤_}
 use native.Mathlib.Omega.{arith}
 use native.Mathlib.Decide.{ℕ-discrete}
-use lib.ListN.{length, length-append, replicate}
-use lib.Dec.{eqb, leb, lit≤}
-use borrow.Author.Tests.{eqb-true, eqb-false, eq-eqb, ne-eqb, leb-true}
+use lib.ListN.{length, length-append}
+use lib.Dec.{eqb, leb}
+use borrow.Author.Tests.{eqb-true, eqb-false, leb-true}
 use Rattle.memory.specs.Word.{if_then_else_}
-use Rattle.memory.proofs.ReadBounds.{if-cases}
 use Rattle.settings.specs.declared.Settings.{Settings}
 use Rattle.settings.specs.Good.{good}
-use Rattle.mail.specs.Mail.{marksOf, characterOf, textCell, sequence, change, rowEnd, cellsText, rowText, shownCells, mailText}
+use Rattle.mail.specs.Mail.{marksOf, characterOf, textCell, sequence, change, cellsText, rowText, shownCells, mailText}
 use Rattle.mail.specs.Texts.{Each, IsCell, RowCells}
-use Rattle.mail.proofs.Below.{Below, below}
+use Rattle.mail.proofs.Below.{below}
 use Rattle.mail.proofs.CellLaws.{showing, shown-are-cells}
 
 -- the most bytes that m cells take, after one with all four marks or after another
@@ -30,7 +29,7 @@ near (suc m) = let h = near m in (omega arith, omega arith)
 
 bounded : (m : ℕ) → (most true m ≤ 12 * m) × (most false m ≤ 12 * m + 1)
 bounded zero = (omega arith, omega arith)
-bounded (suc m) = let h = bounded m in let k = near m in (omega arith, omega arith)
+bounded (suc m) = let h = bounded m in (omega arith, omega arith)
 
 abbrev longest : ℕ → ℕ
 longest marks = if eqb marks 15 then 12 else 10
@@ -82,7 +81,7 @@ row-length cells h =
   where
     by : Dec (length cells ≡ 132) → length (cellsText 0 cells) ≤ most false (length cells) + 5 → length (rowText cells) ≤ 1593
     by (yes e) l = let k : length (cellsText 0 cells) ≤ 1589 = rw e at l in omega arith
-    by (no f) l = omega (arith, bounded (length cells) .1, h .most)
+    by (no f) l = omega (arith, bounded (length cells) .1)
 
 pub text-length : (σ : Settings) (cells : List ℕ) → good σ ≡ true → length cells ≡ 132 → length (mailText σ cells) ≤ 1593
 text-length σ cells g h = row-length (shownCells σ cells) (shown-are-cells σ cells g h)

@@ -1,12 +1,12 @@
 -- A cell's character and marks, and the text of a row's cells one after the other.
-use mathlib.Core.Path.{_≡_, refl, sym, ap, _∙_}
-use mathlib.Core.Bool.{Bool, true, false, _&&_}
+use mathlib.Core.Path.{_≡_, ap, _∙_}
+use mathlib.Core.Bool.{true}
 use mathlib.Core.List.{List, [], _∷_, _++_, map, append-assoc}
-use Prim.Native.Nat.{ℕ, zero, suc, _+_, _-_, _*_, _/_, _%_, _<_, _≤_}
+use Prim.Native.Nat.{ℕ, _+_, _/_, _%_, _<_, _≤_}
 use native.Mathlib.Omega.{arith}
 use native.Mathlib.Nat.{div-one}
 use native.Mathlib.Numerals.{add-one}
-use lib.ListN.{length, getD, take, drop, length-map, drop-of-length-le, List·getD-map}
+use lib.ListN.{length, getD, take, drop, drop-of-length-le, List·getD-map}
 use lib.Seq.{drop-cons, getD-take}
 use lib.Dec.{eqb}
 use borrow.Author.Tests.{leb-true}

@@ -2,7 +2,7 @@
 use mathlib.Core.Path.{_≡_, sym, ap, _∙_}
 use mathlib.Core.Bool.{true, false}
 use mathlib.Core.List.{List, _++_}
-use Prim.Native.Nat.{ℕ, _+_, _≤_, _<_}
+use Prim.Native.Nat.{ℕ, _≤_, _<_}
 use native.Mathlib.Omega.{arith}
 use lib.ListN.{length, take, drop, take-append-drop}
 use lib.Seq.{length-take-le}
@@ -43,7 +43,7 @@ module _ (σ : Settings) (cells buffer : List ℕ) where
     unfolding writeMail
     all-written end new l p =
         let n = long in
-        let at : end ≡ count = omega (arith, p .ends, length-take-le count row within) in
+        let at : end ≡ count = omega (arith, length-take-le count row within) in
         let whole : new ≡ mailText σ cells ++ drop count buffer =
         sym (take-append-drop end new) ∙ rw (p .front, p .past, at, e) in
         rw (eq-eqb (length cells) 132 h, g, le-leb (length (mailText σ cells)) (length buffer) (omega arith))

@@ -46,7 +46,7 @@ pen-went (went marks₁ d) {marks} {p} e =
     let list : marks ≡ marks₁ = cc in
     let pen : p ≡ d .pen = cc in
     record { cells = d .cells; is = rw (list, pen) }
-pen-went (halted y) e = let q : _≡_ {A = ℕ} 0 1 = cc in absurd (omega (arith, q))
+pen-went (halted y) e = let q : _≡_ {A = ℕ} 0 1 = cc in absurd (omega arith)
 
 module _ (m marks : List ℕ) (p : Reading Drawing) (k : Drawing → Reading Drawing) where
   pub then-halted : {x : Fault} → halted x ≡ penOf (walk 0 m marks p) → halted x ≡ penOf (walk 0 m marks (p >>= k))

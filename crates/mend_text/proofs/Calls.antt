@@ -15,7 +15,7 @@ use Rattle.text.specs.Text.{frameText}
 use Rattle.text.specs.ToCome.{toCome}
 use Rattle.text.proofs.Calls as Lines
 use Rattle.mend_text.specs.declared.ChangeLines.the-variants.{Written, Ended}
-use Rattle.mend_text.specs.MendText.{mendedText, outcomeText, output}
+use Rattle.mend_text.specs.MendText.{outcomeText, output}
 use Rattle.mend_text.specs.NextChange.{toMend, Next}
 
 -- calls of `next_change` from settings and memory to the last, the bytes that they write, one after the other, and what they leave

@@ -1,6 +1,6 @@
 -- The text of a list by a step of its mending.
 use mathlib.Core.Path.{_≡_, refl, sym, ap, subst, _∙_}
-use mathlib.Core.List.{List, [], _∷_, _++_, append-assoc}
+use mathlib.Core.List.{List, _++_, append-assoc}
 use Prim.Native.Nat.{ℕ, _<_}
 use Rattle.settings.specs.declared.Settings.{Settings}
 use Rattle.frame.specs.Frame.{frame}

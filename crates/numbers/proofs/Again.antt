@@ -1,7 +1,7 @@
 -- A state that was written is read back as it was, where each of its numbers is one that its field can have.
 use mathlib.Core.Path.{_≡_, refl}
-use mathlib.Core.Bool.{Bool, true, false, _&&_}
-use Prim.Native.Nat.{ℕ, _%_, min, _≤_}
+use mathlib.Core.Bool.{Bool, true, false}
+use Prim.Native.Nat.{ℕ, _%_, _≤_}
 use native.Mathlib.Nat.{mod-eq-of-lt, min-eq-left}
 use native.Mathlib.Omega.{arith}
 use lib.Dec.{leb}
@@ -42,10 +42,10 @@ bool-again true = refl
 bool-again false = refl
 
 byte-again : (n : ℕ) → n ≤ 255 → n % 256 ≡ n
-byte-again n h = mod-eq-of-lt (omega (arith, h))
+byte-again n h = mod-eq-of-lt (omega arith)
 
 word-again : (n : ℕ) → n ≤ 65535 → n % 65536 ≡ n
-word-again n h = mod-eq-of-lt (omega (arith, h))
+word-again n h = mod-eq-of-lt (omega arith)
 
 module _ (s : State) (h : Held s) where
   fits : (w : WindowInHand) → s .fields .window ≡ w → InHandHeld w → stateFits (stateNumbers s) ≡ true

@@ -33,8 +33,8 @@ module _ (r n l : ℕ) (h : l < 65535) where
   by-size true e = rw (min-eq-left (leb-true n 65535 e))
   by-size false e =
       let big = leb-false n 65535 e in
-      let cut : held n ≡ 65535 = min-eq-right (omega (arith, big)) in
-      rw (lt-leb (r + n) l (omega (arith, h, big)), cut) (lt-leb (r + 65535) l (omega (arith, h)))
+      let cut : held n ≡ 65535 = min-eq-right (omega arith) in
+      rw (lt-leb (r + n) l (omega arith), cut) (lt-leb (r + 65535) l (omega arith))
 
   pub held-judged : leb (r + held n) l ≡ leb (r + n) l
   held-judged = by-size (leb n 65535) refl

@@ -61,7 +61,6 @@ module _ (m : List ℕ) (σ : Settings) (f : Fields) where
             let due = reads-given 0 m b (due-reads (σ .linear) (f .row) (f .window) (placed f h)) e in
             omega (
               arith,
-              due .0,
               reads-given 0 m b (background-reads σ f) d .0,
               reads-given 0 m b (overlaid-reads σ (f .row) w (due .1 .0)) u .0,
             )

@@ -25,7 +25,7 @@ use Rattle.windows.specs.Window.{windowOf, twoPointers, inOrder, windowAt, dueW
 use Rattle.windows.proofs.WindowBounds.{Placed, in-order}
 use Rattle.numbers.specs.Places.{any}
 use Rattle.numbers.proofs.Again.{WindowHeld}
-use Rattle.told.proofs.Tells.{Each}
+use Rattle.holding.proofs.Holds.{Each}
 use Rattle.blame.proofs.Comes.{dones, bind, as-comes, check-then, if-comes}
 use Rattle.read_back.proofs.Small.{Small, SmallFault, ahead-small, further-small, pointer-small, Keeps, words-keep}
 

@@ -34,11 +34,12 @@ use Rattle.start.specs.Start.{firstFields, windowStart, startFrom}
 use Rattle.row.specs.Row.{codeSettings, Row, row}
 use Rattle.numbers.specs.Places.{any}
 use Rattle.numbers.proofs.Again.{WindowHeld}
-use Rattle.told.proofs.Tells.{Each}
+use Rattle.holding.proofs.Holds.{Each}
 use Rattle.blame.proofs.Comes.{dones, refuses, bind, check-then, if-comes}
 use Rattle.read_back.proofs.Small.{Small, SmallFault, pointer-small, Keeps}
 use Rattle.read_back.proofs.Blocks.{Pointed, Linked, FormatFits, MainFits, WindowFits, HandFits, block-keeps, redefined-keeps, main-keeps, window-keeps, due-keeps}
-use Rattle.read_back.proofs.Cells.{OverlayFits, cells-keep}
+use Rattle.read_back.proofs.Cells.{cells-keep}
+use Rattle.holding.proofs.CellsHold.{EachOver}
 
 -- the fields of a state, each with a number that it can have
 pub record FieldsFit (f : Fields) : Type 0 where
@@ -110,7 +111,7 @@ module _ (m : List ℕ) (b : Words m) where
 
   -- ---- a row ----
   record Shown (o : Overlaid) : Type 0 where
-    overlay : OverlayFits (o .overlay)
+    overlay : EachOver Pointed (o .overlay)
     window : HandFits (o .window)
 
   overlaid-keeps : (σ : Settings) (at : ℕ) (w : WindowInHand) → HandFits w → Keeps m b Shown (overlaid σ at w)
@@ -148,7 +149,7 @@ module _ (m : List ℕ) (b : Words m) where
 
   record Planned (p : Plan) : Type 0 where
     segments : Each Pointed (p .segments)
-    overlay : OverlayFits (p .overlay)
+    overlay : EachOver Pointed (p .overlay)
     next : FieldsFit (p .next)
 
   plan-keeps : (σ : Settings) (f : Fields) → FieldsFit f → Keeps m b Planned (plan σ f)

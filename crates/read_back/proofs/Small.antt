@@ -13,7 +13,7 @@ use Rattle.memory.specs.Reading.{Reading, _>>=_, each}
 use Rattle.memory.specs.Address.{to, pointer, nextWord, ahead, onward, further, words}
 use Rattle.memory.proofs.ReadBounds.{Words, if-cases}
 use Rattle.numbers.specs.Places.{any}
-use Rattle.told.proofs.Tells.{Each}
+use Rattle.holding.proofs.Holds.{Each}
 use Rattle.blame.proofs.Comes.{Comes, dones, asks, bind}
 
 abbrev pub Small : Pointer → Type 0

@@ -11,6 +11,8 @@ use Rattle.memory.specs.Word.{if_then_else_}
 use Rattle.memory.specs.Reading.{Role, Ask, Reading, done, refuse, ask, _>>=_, readAs, check, checkOf, each, Outcome, given, refused, runFrom}
 use Rattle.memory.specs.Address.{onward, words}
 use Rattle.memory.proofs.ReadBounds.{if-cases}
+use Rattle.holding.proofs.Holds.{Holds}
+use Rattle.holding.proofs.Holds as Shared
 use Rattle.refusals.specs.Refusals.{has}
 
 -- whatever the words are, its refusal has a number of the list
@@ -44,11 +46,11 @@ check-then n b h f = check-of-then n _ b h f
 pub if-refuses : {A : Type 0} {ns : List ℕ} (b : Bool) {p q : Reading A} → Refuses ns p → Refuses ns q → Refuses ns (if b then p else q)
 if-refuses {ns} b h k = if-cases (Refuses ns) b (λ _. h) (λ _. k)
 
-pub each-refuses : {A B : Type 0} {ns : List ℕ} {f : A → B → Reading B} → ((x : A) (b : B) → Refuses ns (f x b)) → (xs : List A) (b : B)
-    → Refuses ns (each f xs b)
-unfolding each
-each-refuses g [] b = dones
-each-refuses g (x ∷ xs) b = bind (g x b) (each-refuses g xs)
+-- of what holds of every reading
+pub from-shared : {A : Type 0} {P : A → Type 0} {ns : List ℕ} {p : Reading A} → Holds (λ _. Unit) (λ _ _. Unit) (λ x. has (x .number) ns ≡ true) P p → Refuses ns p
+from-shared (Shared.dones h) = dones
+from-shared (Shared.refuses h) = refuses h
+from-shared (Shared.asks h g) = asks λ w. from-shared (g w tt)
 
 -- words one after the other: none of its own
 pub words-refuse : {ns : List ℕ} (linear : Bool) (k : ℕ) (p : Pointer) → Refuses ns (words linear k p)

@@ -28,16 +28,14 @@ use Rattle.windows.specs.Window.{inOrder, windowOf, twoPointers, windowAt, firs
 use Rattle.state.specs.declared.Fields.{Fields}
 use Rattle.state.specs.declared.State.{State}
 use Rattle.state.specs.State.{stateOf, inRange}
-use Rattle.layout.specs.Layout.{total, allFit, Overlay, none, over, edgesFit, segmentsOn}
-use Rattle.layout.specs.declared.Side.the-variants.{Before}
+use Rattle.layout.specs.Layout.{total, allFit, Overlay, none, over, edgesFit}
 use Rattle.layout.specs.Overlay.{windowRow, overlaid}
 use Rattle.background.specs.Background.{backgroundBlock, backgroundRow}
 use Rattle.plan.specs.Plan.{plan}
 use Rattle.codes.specs.declared.CodeSettings.{CodeSettings}
-use Rattle.codes.specs.declared.Source.{Source}
-use Rattle.codes.specs.Attribute.{Background, Window, invokes, latches}
-use Rattle.codes.specs.Codes.{Drawing, examine, wordCodes, codes}
-use Rattle.cells.specs.Cells.{fillByWord, fillTo, segment, segmentsTo, rowCells}
+use Rattle.codes.specs.Codes.{Drawing}
+use Rattle.holding.proofs.CellsHold.{any, EachOver, Keeps, cells-hold}
+use Rattle.cells.specs.Cells.{rowCells}
 use Rattle.row.specs.Row.{Row, Called, row, answered, rowCall}
 use Rattle.start.specs.Top.{registered, enabled, upward, ofWindow, topBlock}
 use Rattle.start.specs.Start.{windowStart, startFrom, started, startCall}
@@ -47,7 +45,7 @@ use Rattle.scroll.specs.Scroll as Shift
 use Rattle.joining.specs.declared.Part.{Part}
 use Rattle.effect.specs.Effect.{partOf, latchWith, outcomeFor, effectCall}
 use Rattle.refusals.specs.Refusals.{sheetNumbers, startNumbers, shiftNumbers, effectNumbers, rowNumbers, ofSheet, ofStart, ofShift, ofRow, ofPart, ofEffect, has, within}
-use Rattle.refusals.proofs.Refuses.{Refuses, dones, refuses, asks, bind, check-refuses, check-then, check-of-then, if-refuses, each-refuses, words-refuse, as-refuses, Told, given-told, refused-told, run-told}
+use Rattle.refusals.proofs.Refuses.{Refuses, dones, refuses, asks, bind, check-refuses, check-then, check-of-then, if-refuses, from-shared, words-refuse, as-refuses, Told, given-told, refused-told, run-told}
 
 -- the checks on settings
 settings-refuse : {ns : List ℕ} (σ : Settings) → has 2 ns ≡ true → has 17 ns ≡ true → Refuses ns (checkSettings σ)
@@ -144,39 +142,27 @@ plan-refuses σ f =
     check-then 12 (edgesFit (σ .hidden) (o .overlay) (g .block .segments)) refl λ _ _. dones
 
 -- its cells
-module _ (σ : CodeSettings) where
-  examine-refuses : {ns : List ℕ} (source : Source) (end code : ℕ) (d : Drawing) → Refuses ns (examine σ source end code d)
-  unfolding examine _>>=_
-  examine-refuses source end code d = if-refuses (invokes (σ .flag) code && d .pen .list .present) (asks λ w. dones) dones
+cells-refuse : (σ : CodeSettings) (fill : FillMode) (o : Overlay) (gs : List Segment) (d : Drawing) → Refuses effectNumbers (rowCells σ fill o gs d)
+cells-refuse σ fill o gs d = from-shared (cells-hold _ _ _ σ fill {I = λ _. Unit} {C = λ _. Unit} {S = λ _. Unit} keeps o gs d (over-any o) (any gs) tt)
+  where
+    keeps : Keeps (λ _. Unit) (λ _ _. Unit) (λ x. has (x .number) effectNumbers ≡ true) σ fill (λ _. Unit) (λ _. Unit) (λ _. Unit)
+    keeps = record {
+      code = λ _ _. tt;
+      further = λ _ _ _ _. tt;
+      list = λ _ _ _. tt;
+      taken = λ _ _ _ _. tt;
+      shown = λ _ _ _ _ _ _. tt;
+      run = λ _ _ _. tt;
+      bad = λ _ _ _. refl;
+      begun = λ _ _ _ _. tt;
+      codesOf = λ _ _ _. tt;
+      unlisted = λ _ _. tt;
+      resumed = λ _ _ _ _. tt;
+    }
 
-  word-refuses : {ns : List ℕ} (source : Source) (end n w : ℕ) (d : Drawing) → Refuses ns (wordCodes σ source end n w d)
-  unfolding wordCodes
-  word-refuses source end n w d = each-refuses (examine-refuses source end) _ d
-
-  codes-refuse : {ns : List ℕ} (source : Source) (end n : ℕ) (p : Pointer) (d : Drawing) → Refuses ns (codes σ source end n p d)
-  unfolding codes _>>=_
-  codes-refuse source end zero p d = dones
-  codes-refuse source end (suc zero) p d = asks λ w. word-refuses source end 1 w d
-  codes-refuse source end (suc (suc n)) p d = asks λ w. bind (word-refuses source end 2 w d) λ d₁. codes-refuse source end n (onward (σ .linear) p) d₁
-
-  module _ (fill : FillMode) where
-    fill-refuses : (end : ℕ) (d : Drawing) → Refuses effectNumbers (fillTo σ fill end d)
-    unfolding fillTo fillByWord _>>=_
-    fill-refuses end d =
-        if-refuses (ltb (d .pen .column) end)
-        (if-refuses (fill .flag && d .pen .list .present) (asks λ w. if-refuses (latches w) dones (refuses refl)) dones) dones
-
-    segments-refuse : (source : Source) (gs : List Segment) (end : ℕ) (d : Drawing) → Refuses effectNumbers (segmentsTo σ fill source gs end d)
-    unfolding segmentsTo segment
-    segments-refuse source gs end d =
-        bind (each-refuses (λ g b. bind (codes-refuse source _ _ _ _) (fill-refuses _)) gs d) (fill-refuses end)
-
-    cells-refuse : (o : Overlay) (gs : List Segment) (d : Drawing) → Refuses effectNumbers (rowCells σ fill o gs d)
-    unfolding rowCells
-    cells-refuse none gs d = segments-refuse Background gs 132 d
-    cells-refuse (over number first end ws) gs d =
-        bind (segments-refuse Background (segmentsOn (Before first) (σ .hidden) 0 gs) first d) λ d₁.
-        bind (segments-refuse (Window number) ws end _) λ d₂. segments-refuse Background _ 132 _
+    over-any : (o : Overlay) → EachOver (λ _. Unit) o
+    over-any none = tt
+    over-any (over number first end ws) = any ws
 
 row-refuses : (σ : Settings) (s : State) → Refuses effectNumbers (row σ s)
 unfolding row

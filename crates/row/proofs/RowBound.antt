@@ -39,7 +39,7 @@ row-reads σ s =
     (cells-read (codeSettings σ) (s .fields .fill) (p .overlay) (p .segments) (blank (s .latch)) (hp .few) (hp .narrow) (hp .inside) (hp .edges) (refl, refl)) λ d h.
     dones
     (record {
-      whole = omega (arith, h .0, h .1);
+      whole = omega arith;
       within = hp .within;
       numbered = hp .numbered;
       fewer = hp .fewer;

@@ -37,7 +37,7 @@ drawable hidden f p s = record { narrow = s .narrow; inside = inside hidden (p .
 pub plan-drawable : (σ : Settings) (m : List ℕ) → Words m → (f : Fields) {n : ℕ} {p : Plan} → given n p ≡ run m (plan σ f)
     → Drawable (σ .hidden) (p .overlay) (p .segments) × (n ≤ 1000)
 plan-drawable σ m b f {p = p} e =
-    let k = reads-given 0 m b (Bounds.plan-reads σ f) (sym e) in (drawable (σ .hidden) f p (k .1), omega (arith, k .0))
+    let k = reads-given 0 m b (Bounds.plan-reads σ f) (sym e) in (drawable (σ .hidden) f p (k .1), omega arith)
 
 -- a row is refused as its plan is
 pub plan-refused : (σ : Settings) (m : List ℕ) (s : State) {x : Fault} → refused x ≡ run m (plan σ (s .fields)) → refused x ≡ run m (row σ s)

@@ -1,8 +1,8 @@
 -- "In cells of source 2 bits 31..24 hold the window's number along the chain, from 0; elsewhere 0." (02) Of a row's cells: one of
 -- source 2 has the number of the window in hand, on one of its rows; any other has 0.
-use mathlib.Core.Path.{_≡_, refl, ap, _∙_}
+use mathlib.Core.Path.{_≡_, ap, _∙_}
 use mathlib.Core.Bool.{_&&_}
-use mathlib.Core.List.{List, [], _∷_}
+use mathlib.Core.List.{List}
 use Prim.Native.Nat.{ℕ, zero, suc, _/_, _%_, _^_, _<_}
 use native.Mathlib.Omega.{arith}
 use lib.ListN.{getD, set}
@@ -18,7 +18,7 @@ use Rattle.state.specs.declared.State.{State}
 use Rattle.layout.specs.Layout as Layout
 use Rattle.layout.proofs.OverlayBounds.{OnRow, Shows}
 use Rattle.plan.proofs.PlanBounds.{plan-reads}
-use Rattle.codes.specs.Attribute.{Fill, Background, Window, sourceNumber, windowNumber, cell, sourceOf, windowNumberOf}
+use Rattle.codes.specs.Attribute.{Fill, Background, Window, sourceNumber, windowNumber, sourceOf, windowNumberOf}
 use Rattle.codes.specs.Codes.{blank}
 use Rattle.codes.proofs.CellParts.{source-back, window-back}
 use Rattle.codes.proofs.CodeCells.{Makes}
@@ -31,11 +31,11 @@ Named row w c = (sourceOf c ≡ 2 → OnRow row w (windowNumberOf c)) × ((sourc
 module _ (row : ℕ) (w : WindowInHand) where
   fill-named : Makes (Named row w) Fill
   unfolding sourceNumber windowNumber
-  fill-named a code h = (λ e. absurd (omega (arith, e, source-back Fill a code h)), λ _. window-back Fill a code h)
+  fill-named a code h = (λ e. absurd (omega (arith, source-back Fill a code h)), λ _. window-back Fill a code h)
 
   back-named : Makes (Named row w) Background
   unfolding sourceNumber windowNumber
-  back-named a code h = (λ e. absurd (omega (arith, e, source-back Background a code h)), λ _. window-back Background a code h)
+  back-named a code h = (λ e. absurd (omega (arith, source-back Background a code h)), λ _. window-back Background a code h)
 
   window-named : (number : ℕ) → OnRow row w number → Makes (Named row w) (Window number)
   unfolding sourceNumber windowNumber

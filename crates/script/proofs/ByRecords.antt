@@ -1,23 +1,22 @@
 -- A script that is read byte by byte, in any parts, comes to what its records come to.
 use mathlib.Core.Path.{_≡_, refl, sym, ap, _∙_}
 use mathlib.Core.Bool.{Bool, true, false}
-use mathlib.Core.List.{List, [], _∷_, _++_, append-nil}
+use mathlib.Core.List.{List, [], _∷_}
 use Prim.Native.Nat.{ℕ, zero, suc, _+_, _-_, _*_, _%_, _^_, _<_, _≤_}
 use native.Mathlib.Omega.{arith}
 use native.Mathlib.Nat.{zero-add, le-refl}
-use lib.ListN.{length, getD, take, drop, replicate, length-take, length-drop}
-use lib.Seq.{getD-drop, getD-take, length-take-le}
-use lib.Dec.{ltb, leb, eqb, lit<}
-use borrow.Author.Tests.{eq-eqb, ne-eqb, lt-ltb, le-ltb, le-leb, lt-leb, ltb-true, ltb-false}
-use Rattle.memory.specs.Word.{if_then_else_}
+use lib.ListN.{length, getD, take, drop, replicate, length-drop}
+use lib.Seq.{getD-drop, length-take-le}
+use lib.Dec.{ltb, eqb, lit<}
+use borrow.Author.Tests.{ne-eqb, lt-ltb, le-ltb, le-leb, lt-leb, ltb-true, ltb-false}
 use Rattle.memory.proofs.ReadBounds.{if-cases}
 use Rattle.settings.specs.declared.Settings.{Settings}
 use Rattle.script.specs.declared.Script.{Script}
 use Rattle.script.specs.declared.Step.{Step}
 use Rattle.script.specs.declared.Step.the-variants.{More, Draw, Refused}
 use Rattle.script.specs.Records.{bodyLength, accepted, settingsAfter, memoryAfter}
-use Rattle.script.specs.Script.{Outcome, drawn, refusedAt, unset, numberFrom, number, records, script}
-use Rattle.script.specs.Feeding.{beginning, counted, begun, taken, withSettings, ended, Stepped, stepped, stepOf, onward, feeding, atEnd, outcome, joined, inParts, readParts}
+use Rattle.script.specs.Script.{refusedAt, unset, numberFrom, number, records, script}
+use Rattle.script.specs.Feeding.{beginning, counted, begun, taken, ended, Stepped, stepped, stepOf, onward, feeding, outcome, joined, inParts, readParts}
 use Rattle.script.proofs.FeedLaws.{feed-append}
 
 abbrev pub Bytes : List ℕ → Type 0

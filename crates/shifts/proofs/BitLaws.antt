@@ -56,5 +56,5 @@ negative (negsuc k) f h =
 
 -- another one
 pub other : (z : ℤ) → SFits w32 z → ltZ z (pos 0) ≡ false → T (nonNeg z) × Fits w32 (natAbs z) × (natAbs z ≡ ofZ w32 z)
-other (pos n) f h = let few : n < 2147483648 = f .sfits in (tt, record { fits = omega arith }, refl)
+other (pos n) f h = (tt, record { fits = omega arith }, refl)
 other (negsuc k) f h = let z : _≡_ {A = ℕ} 0 1 = cc in absurd (omega arith)

@@ -8,7 +8,7 @@ use Rattle.script.proofs.ByRecords.{Bytes, read-script}
 use Rattle.text.specs.declared.Text.{Text}
 use Rattle.text.specs.declared.Lines.the-variants as Lines
 use Rattle.text.specs.Text.{outcomeText, output}
-use Rattle.text.specs.ToCome.{toCome, Writes, Next}
+use Rattle.text.specs.ToCome.{toCome, Next}
 
 -- calls of `next` from a text to its end, and the bytes that they write, one after the other
 pub data Calls (m : List ℕ) : Text → List ℕ → Type 0 where

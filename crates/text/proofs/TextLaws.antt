@@ -1,11 +1,10 @@
 -- The text of a frame, from its start and by each answer of a step.
-use mathlib.Core.Path.{_≡_, refl, sym, ap, subst, _∙_}
-use mathlib.Core.List.{List, [], _∷_, _++_, append-assoc, append-nil}
-use mathlib.Core.Option.{none, some}
-use Prim.Native.Nat.{ℕ, suc, _+_, _<_, _≤_}
+use mathlib.Core.Path.{_≡_, sym, ap, subst, _∙_}
+use mathlib.Core.List.{List, _++_, append-assoc, append-nil}
+use Prim.Native.Nat.{ℕ, suc, _+_, _<_}
 use native.Mathlib.Omega.{arith}
 use native.Mathlib.Nat.{zero-add}
-use lib.ListN.{length, take}
+use lib.ListN.{length}
 use Rattle.memory.specs.declared.Refusal.{Refusal}
 use Rattle.memory.proofs.ReadBounds.{Words}
 use Rattle.settings.specs.declared.Settings.{Settings}
@@ -15,15 +14,15 @@ use Rattle.frame.specs.declared.BeginAnswer.the-variants as Begin
 use Rattle.frame.specs.declared.StepAnswer.{StepAnswer}
 use Rattle.frame.specs.declared.StepAnswer.the-variants as Step
 use Rattle.frame.specs.Step.{Stepped, stepped, begin, step, inBound}
-use Rattle.frame.specs.Frame.{Frame, FrameRow, frameRow, byAnswer, byStep, rest, frame}
+use Rattle.frame.specs.Frame.{frameRow, byAnswer, byStep, rest, frame}
 use Rattle.frame.proofs.StepLaws.{Advanced, Advances, advances}
 use Rattle.frame.proofs.Frames.{next-step}
 use Rattle.frame.proofs.Calls.{in-bound, made-next, started-made}
-use Rattle.lines.specs.Lines.{Line, rowLine, cellLine, shownCells, endLine, refusalLine}
+use Rattle.lines.specs.Lines.{Line, endLine, refusalLine}
 use Rattle.text.specs.declared.Text.{Text}
 use Rattle.text.specs.declared.Text.the-variants.{Rows, Ended}
-use Rattle.text.specs.Text.{rowText, rowsText, lastLine, frameText}
-use Rattle.text.specs.ToCome.{fromRow, toCome, calls, Writes}
+use Rattle.text.specs.Text.{rowText, rowsText, frameText}
+use Rattle.text.specs.ToCome.{toCome, calls, Writes}
 
 -- a line, with a text that begins with it
 pub with-line : (m : List ℕ) (t u : Text) {line : List ℕ} (n : ℕ) (buffer : List ℕ) → Line line n buffer → line ++ toCome m u ≡ toCome m t

@@ -44,10 +44,10 @@ module _ (m : List ℕ) where
     there = by (ltb (a / 2) (length m)) refl
       where
         by : (t : Bool) → ltb (a / 2) (length m) ≡ t → getD same (a / 2) 0 ≡ getD m (a / 2) 0
-        by true e = getD-set-same after (a / 2) (getD m (a / 2) 0) 0 (omega (arith, l, ltb-true (a / 2) (length m) e))
+        by true e = getD-set-same after (a / 2) (getD m (a / 2) 0) 0 (omega (arith, ltb-true (a / 2) (length m) e))
         by false e =
             let past = ltb-false (a / 2) (length m) e in
-            List·getD-eq-default same 0 (omega (arith, l, past, length-set after (a / 2) (getD m (a / 2) 0))) ∙ sym (List·getD-eq-default m 0 past)
+            List·getD-eq-default same 0 (omega (arith, length-set after (a / 2) (getD m (a / 2) 0))) ∙ sym (List·getD-eq-default m 0 past)
 
     less : (i : ℕ) → isRead i xs ≡ false → getD same i 0 ≡ getD m i 0
     unfolding isRead
@@ -115,7 +115,7 @@ module _ (latch : ℕ) (σ : Settings) (m : List ℕ) (b : Words m) where
       rows s = rowsRead (s .fields .left) σ m s
 
       after-few : {o : Outcome State} → Within (λ s. s .fields .left ≡ linesForRows σ) 13 o → length (thenRead rows o) ≤ 11690 * linesForRows σ
-      after-few (given-within {a = s} _ e) = omega (arith, rows-few (s .fields .left) s, e)
+      after-few (given-within {a = s} _ e) = omega (arith, rows-few (s .fields .left) s)
       after-few refused-within = omega arith
 
 -- of settings whose VAL has 16 bits, as every caller's have
@@ -126,7 +126,6 @@ count-fits latch σ m marks c h v e =
     let t = all-turn latch σ m marks c h e in
     omega (
       arith,
-      t .counted,
       few-changes m (frameRead latch σ m) (convertCall latch σ m marks .memory) (t .size) (t .unread),
       frame-few latch σ m (h .0),
       lines-few (σ .interlace) (σ .val - σ .vsd),

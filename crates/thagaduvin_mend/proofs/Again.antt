@@ -1,10 +1,10 @@
 -- A caller who calls again hands in the numbers that the call left: they are read as the settings after the change.
-use mathlib.Core.Path.{_≡_, refl, sym, ap, _∙_}
+use mathlib.Core.Path.{_≡_, refl, ap, _∙_}
 use mathlib.Core.Bool.{Bool, true, _&&_}
 use mathlib.Core.List.{List}
 use Prim.Native.Nat.{ℕ}
 use native.Mathlib.Omega.{arith}
-use lib.ListN.{length, getD, set, length-set}
+use lib.ListN.{length, set, length-set}
 use lib.Seq.{getD-set-same, getD-set-other}
 use lib.Dec.{leb}
 use borrow.Author.Tests.{eq-eqb}
@@ -26,10 +26,10 @@ module _ (xs : List ℕ) (l : length xs ≡ 18) where
   other k h g = getD-set-other (set xs 7 0) 8 k 0 0 g ∙ getD-set-other xs 7 k 0 0 h
 
   first : at ys 7 ≡ 0
-  first = getD-set-other (set xs 7 0) 8 7 0 0 (λ e. omega (arith, e)) ∙ getD-set-same xs 7 0 0 (omega (arith, l))
+  first = getD-set-other (set xs 7 0) 8 7 0 0 (λ e. omega arith) ∙ getD-set-same xs 7 0 0 (omega arith)
 
   second : at ys 8 ≡ 0
-  second = getD-set-same (set xs 7 0) 8 0 0 (omega (arith, l, length-set xs 7 0))
+  second = getD-set-same (set xs 7 0) 8 0 0 (omega (arith, length-set xs 7 0))
 
   -- the tests of the places that stay
   abbrev others : Bool

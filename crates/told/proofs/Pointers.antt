@@ -19,7 +19,8 @@ use Rattle.settings.specs.declared.PointerWords.{PointerWords}
 use Rattle.settings.specs.declared.Settings.{Settings}
 use Rattle.start.specs.Top.{registered}
 use Rattle.told.specs.Told.{Held, byMemory, Leads, Reached}
-use Rattle.told.proofs.Tells.{apart, Tells, dones, asks, bind}
+use Rattle.holding.proofs.Holds.{dones, asks, bind}
+use Rattle.told.proofs.Tells.{apart, Tells}
 
 -- a pointer begins where its first word was read, unless it is null
 begins-at : (linear : Bool) (from first second : ℕ)

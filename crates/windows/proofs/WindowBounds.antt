@@ -70,7 +70,7 @@ window-reads linear number least p l =
 
 next : (v : Window) (w : WindowInHand) → Placed w × Numbering (v .block .number + 1) w → Placed w × After (Present v) w
 next v Absent h = (tt, ended)
-next v (Present w) h = (h .0, later {v = v} {w = w} (omega (arith, h .1)))
+next v (Present w) h = (h .0, later {v = v} {w = w} (omega arith))
 
 pub due-reads : (linear : Bool) (row : ℕ) (w : WindowInHand) → Placed w → Reads (λ v. Placed v × After w v) 6 (dueWindow linear row w)
 unfolding dueWindow

@@ -13,40 +13,37 @@ returns c =
 
 returns-2 : tie.Need-returns-2
 returns-2 c =
-    let x = settings-pass _ _ (c .before .before .before .before .before .before .before .before .check-settings .ensures) 0 _ (c .before .before .before .before .before .before .enum-told .given .1) in
-    let t = sym (rw (c .before .before .fault2 .given .1) at (c .before .before .before .before .top-block .ensures)) in
+    let refused = c .before .before in
+    let at-top-block = refused .before .before in
+    let passed = at-top-block .before .before in
+    let x = settings-pass _ _ (passed .before .before .check-settings .ensures) 0 _ (passed .enum-told .given .1) in
+    let t = sym (rw (refused .fault2 .given .1) at (at-top-block .top-block .ensures)) in
     rw (c .refusal-of2 .ensures) (sym (main-refused _ _ _ (settings-good _ _ x ∙ t)))
 
 returns-3 : tie.Need-returns-3
 returns-3 c =
-    let x = settings-pass _ _ (c .before .before .before .before .before .before .before .before .before .before .check-settings .ensures) 0 _ (c .before .before .before .before .before .before .before .before .enum-told .given .1) in
-    let t = sym (rw (c .before .before .before .before .enum-told2 .given .1) at (c .before .before .before .before .before .before .top-block .ensures)) in
-    sym (start-refused _ _ _ (settings-good _ _ x ∙ t) (rw (c .before .refusal .given .1) at (c .before .before .before .start .ensures)))
+    let at-start = c .before .before .before in
+    let read = at-start .before in
+    let at-top-block = read .before .before in
+    let passed = at-top-block .before .before in
+    let x = settings-pass _ _ (passed .before .before .check-settings .ensures) 0 _ (passed .enum-told .given .1) in
+    let t = sym (rw (read .enum-told2 .given .1) at (at-top-block .top-block .ensures)) in
+    sym (start-refused _ _ _ (settings-good _ _ x ∙ t) (rw (c .before .refusal .given .1) at (at-start .start .ensures)))
 
 returns-4 : tie.Need-returns-4
 returns-4 c =
-    let x = settings-pass _ _ (c .before .before .before .before .before .before .before .before .before .before .before .before .check-settings .ensures) 0 _ (c .before .before .before .before .before .before .before .before .before .before .enum-told .given .1) in
-    let t = sym (rw (c .before .before .before .before .before .before .enum-told2 .given .1) at (c .before .before .before .before .before .before .before .before .top-block .ensures)) in
+    let accepted = c .before .before .before in
+    let at-start = accepted .before .before in
+    let read = at-start .before in
+    let at-top-block = read .before .before in
+    let passed = at-top-block .before .before in
+    let x = settings-pass _ _ (passed .before .before .check-settings .ensures) 0 _ (passed .enum-told .given .1) in
+    let t = sym (rw (read .enum-told2 .given .1) at (at-top-block .top-block .ensures)) in
     c .walk-rows .ensures
-    ∙ sym (start-given _ _ _ (settings-good _ _ x ∙ t) (rw (c .before .before .before .started .given .1) at (c .before .before .before .before .before .start .ensures)))
+    ∙ sym (start-given _ _ _ (settings-good _ _ x ∙ t) (rw (accepted .started .given .1) at (at-start .start .ensures)))
 
 pub frame-verdict-spec : {M : Type 1} → statement M
 frame-verdict-spec =
-    tie.close
-    (tie.spec
-    (λ c κs. search needs)
-    (λ c. search needs)
-    (λ c κs. search needs)
-    (λ c. search needs)
-    (λ c κs. search needs)
-    (λ c. search needs)
-    (λ c κs. search needs)
-    (λ c. search needs)
-    (λ c κs. search needs)
-    (λ c. search needs)
-    (λ c. search needs)
-    (λ c κs. search needs)
-    returns
-    returns-2
-    returns-3
-    returns-4)
+    tie.close (tie.spec (λ c κs. search needs) (λ c. search needs) (λ c κs. search needs) (λ c. search needs)
+    (λ c κs. search needs) (λ c. search needs) (λ c κs. search needs) (λ c. search needs) (λ c κs. search needs)
+    (λ c. search needs) (λ c. search needs) (λ c κs. search needs) returns returns-2 returns-3 returns-4)

@@ -18,4 +18,5 @@ unfolding leader
 returns-3 c = rw (c .before .before .before .window .given .1, le-ltb _ _ (c .if1 .left))
 
 pub leader-spec : {M : Type 1} → statement M
-leader-spec = tie.close (tie.spec (λ c. search needs) (λ c. search needs) (λ c. search needs) returns returns-2 returns-3)
+leader-spec =
+    tie.close (tie.spec (λ c. search needs) (λ c. search needs) (λ c. search needs) returns returns-2 returns-3)

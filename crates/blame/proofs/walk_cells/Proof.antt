@@ -1,6 +1,5 @@
 -- What the plan has checked lets the cells be drawn; the state after the row, or its refusal, is that of the whole row.
 use mathlib.Core.Path.{ap, _∙_}
-use Prim.Native.Nat.{ℕ}
 use Rattle.state.specs.State.{stateOf}
 use Rattle.cells.specs.Answers.{Finished}
 use Rattle.cells.proofs.FinishLaws.{finish-refused, finish-given}
@@ -23,28 +22,27 @@ draw-cells-requires c κs =
 
 returns : tie.Need-returns
 returns c =
-    let e = c .before .before .before .before .before .before .before .before .before .before in
-    let a = e .args in
+    let refused = c .before in
+    let at-draw-cells = refused .before .before .before in
+    let at-code-settings = at-draw-cells .before .before in
+    let start = at-code-settings .before .before .before .before in
+    let a = start .args in
     ap walked
-    (planned-refused (a .settings) (a .mem .now) (a .state) (e .pre)
-    (finish-refused _ (rw (c .before .fault .given .1, c .before .before .before .before .before .before .code-settings .ensures) at (c .before .before .before .before .draw-cells .ensures))))
+    (planned-refused (a .settings) (a .mem .now) (a .state) (start .pre)
+    (finish-refused _ (rw (refused .fault .given .1, at-code-settings .code-settings .ensures) at (at-draw-cells .draw-cells .ensures))))
 
 returns-2 : tie.Need-returns-2
 returns-2 c =
-    let e = c .before .before .before .before .before .before .before .before .before .before .before in
-    let a = e .args in
-    let g = finish-given _ (rw (c .before .before .latch .given .1, c .before .before .before .before .before .before .before .code-settings .ensures) at (c .before .before .before .before .before .draw-cells .ensures)) in
+    let drawn = c .before .before in
+    let at-draw-cells = drawn .before .before .before in
+    let at-code-settings = at-draw-cells .before .before in
+    let start = at-code-settings .before .before .before .before in
+    let a = start .args in
+    let g = finish-given _ (rw (drawn .latch .given .1, at-code-settings .code-settings .ensures) at (at-draw-cells .draw-cells .ensures)) in
     ap (λ (f : Finished). Next (stateOf (f .latch) (a .p .next))) (g .same)
-    ∙ ap walked (planned-drawn (a .settings) (a .mem .now) (a .state) (e .pre) (g .is))
+    ∙ ap walked (planned-drawn (a .settings) (a .mem .now) (a .state) (start .pre) (g .is))
 
 pub walk-cells-spec : {M : Type 1} → statement M
 walk-cells-spec =
-    tie.close
-    (tie.spec
-    code-settings-requires
-    (λ c. search needs)
-    draw-cells-requires
-    (λ c. search needs)
-    (λ c. search needs)
-    returns
-    returns-2)
+    tie.close (tie.spec code-settings-requires (λ c. search needs) draw-cells-requires (λ c. search needs)
+    (λ c. search needs) returns returns-2)

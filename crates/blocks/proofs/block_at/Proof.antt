@@ -20,17 +20,33 @@ segments-from-requires c κs = (search needs, rw (c .before .before .words-befor
 returns-2 : tie.Need-returns-2
 unfolding blockAt
 returns-2 c =
-    let r = c .before .before .before .before .before .before .before .before .before .before .before .before .before .before .read-words in
-    rw (ne-eqb _ 0 (c .before .before .before .before .before .before .before .before .before .before .before .before .before .before .before .before .if1 .left))
-    (c .before .before .segments-from .ensures
-    ∙ block-read _ _ (c .before .before .before .before .before .before .before .before .before .before .before .before .before .before .before .before .before .before .before .before .args .redefines) _ _ (read-whole _ _ 3 _ _ _ (r .ensures) (c .before .before .before .before .before .before .before .before .before .before .before .enum-told .given .1) (r .kept .1 .1 .1 .0)) _ (c .before .before .before .before .before .before .before .before .before .before .is-pointed .ensures) _ (c .before .before .before .before .before .before .before .before .before .redefinition-pointer .ensures) _ _ (c .before .before .before .before .before .before .before .redefinition .given .1) (c .before .before .before .before .before .words-before .ensures))
+    let at-segments-from = c .before .before in
+    let at-words-before = at-segments-from .before .before .before in
+    let pointer-read = at-words-before .before .before in
+    let at-redefinition-pointer = pointer-read .before .before in
+    let at-is-pointed = at-redefinition-pointer .before in
+    let head-read = at-is-pointed .before in
+    let at-read-words = head-read .before .before .before in
+    let not-null = at-read-words .before .before in
+    let start = not-null .before .before .before .before in
+    let r = at-read-words .read-words in
+    rw (ne-eqb _ 0 (not-null .if1 .left))
+    (at-segments-from .segments-from .ensures
+    ∙ block-read _ _ (start .args .redefines) _ _ (read-whole _ _ 3 _ _ _ (r .ensures) (head-read .enum-told .given .1) (r .kept .1 .1 .1 .0)) _ (at-is-pointed .is-pointed .ensures) _ (at-redefinition-pointer .redefinition-pointer .ensures) _ _ (pointer-read .redefinition .given .1) (at-words-before .words-before .ensures))
 
 returns-3 : tie.Need-returns-3
 unfolding blockAt
 returns-3 c =
-    let r = c .before .before .before .before .before .before .before .before .read-words in
-    rw (ne-eqb _ 0 (c .before .before .before .before .before .before .before .before .before .before .if1 .left))
-    (block-refused _ _ (c .before .before .before .before .before .before .before .before .before .before .before .before .before .before .args .redefines) _ _ (read-whole _ _ 3 _ _ _ (r .ensures) (c .before .before .before .before .before .enum-told .given .1) (r .kept .1 .1 .1 .0)) _ (c .before .before .before .before .is-pointed .ensures) _ (c .before .before .before .redefinition-pointer .ensures) _ (c .before .fault .given .1))
+    let refused = c .before in
+    let at-redefinition-pointer = refused .before .before in
+    let at-is-pointed = at-redefinition-pointer .before in
+    let head-read = at-is-pointed .before in
+    let at-read-words = head-read .before .before .before in
+    let not-null = at-read-words .before .before in
+    let start = not-null .before .before .before .before in
+    let r = at-read-words .read-words in
+    rw (ne-eqb _ 0 (not-null .if1 .left))
+    (block-refused _ _ (start .args .redefines) _ _ (read-whole _ _ 3 _ _ _ (r .ensures) (head-read .enum-told .given .1) (r .kept .1 .1 .1 .0)) _ (at-is-pointed .is-pointed .ensures) _ (at-redefinition-pointer .redefinition-pointer .ensures) _ (refused .fault .given .1))
 
 returns-4 : tie.Need-returns-4
 unfolding blockAt
@@ -40,21 +56,6 @@ returns-4 c =
 
 pub block-at-spec : {M : Type 1} → statement M
 block-at-spec =
-    tie.close
-    (tie.spec
-    returns
-    (λ c. search needs)
-    (λ c κs. search needs)
-    (λ c. search needs)
-    (λ c. search needs)
-    (λ c κs. search needs)
-    (λ c κs. search needs)
-    (λ c. search needs)
-    (λ c κs. search needs)
-    segments-from-requires
-    (λ c. search needs)
-    (λ c. search needs)
-    (λ c. search needs)
-    returns-2
-    returns-3
-    returns-4)
+    tie.close (tie.spec returns (λ c. search needs) (λ c κs. search needs) (λ c. search needs) (λ c. search needs)
+    (λ c κs. search needs) (λ c κs. search needs) (λ c. search needs) (λ c κs. search needs) segments-from-requires
+    (λ c. search needs) (λ c. search needs) (λ c. search needs) returns-2 returns-3 returns-4)

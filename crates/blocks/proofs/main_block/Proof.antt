@@ -1,3 +1,4 @@
+-- Seven words are read, and `main_block_of` makes the block of them; a refused reading is the refusal.
 use mathlib.Core.Path.{sym, ap, _∙_}
 use Rattle.memory.specs.Reading.{given}
 use Rattle.memory.proofs.Laws.{step-given, step-refused, run-done}
@@ -23,12 +24,5 @@ returns-2 c =
 
 pub main-block-spec : {M : Type 1} → statement M
 main-block-spec =
-    tie.close
-    (tie.spec
-    (λ c. search needs)
-    (λ c κs. search needs)
-    (λ c. search needs)
-    (λ c κs. search needs)
-    (λ c. search needs)
-    returns
-    returns-2)
+    tie.close (tie.spec (λ c. search needs) (λ c κs. search needs) (λ c. search needs) (λ c κs. search needs)
+    (λ c. search needs) returns returns-2)

@@ -1,3 +1,4 @@
+-- A null pointer changes nothing and reads nothing; any other is read, three words, and `format_of` makes the format of them.
 use mathlib.Core.Path.{sym, ap, _∙_}
 use borrow.Author.Tests.{eq-eqb, ne-eqb}
 use Rattle.memory.specs.Reading.{given}
@@ -28,13 +29,5 @@ returns-3 c =
 
 pub redefinition-spec : {M : Type 1} → statement M
 redefinition-spec =
-    tie.close
-    (tie.spec
-    returns
-    (λ c. search needs)
-    (λ c κs. search needs)
-    (λ c. search needs)
-    (λ c κs. search needs)
-    (λ c. search needs)
-    returns-2
-    returns-3)
+    tie.close (tie.spec returns (λ c. search needs) (λ c κs. search needs) (λ c. search needs) (λ c κs. search needs)
+    (λ c. search needs) returns-2 returns-3)

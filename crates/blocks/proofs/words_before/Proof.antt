@@ -1,4 +1,4 @@
-use borrow.Author.Needs.{needs}
+-- A redefinition pointer is two words more, by the same test as in the definition.
 use Rattle.blocks.proofs.words_before.Statement.{statement}
 use Rattle.blocks.proofs.words_before.Tie as tie
 

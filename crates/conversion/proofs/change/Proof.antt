@@ -12,8 +12,4 @@ returns-2 : tie.Need-returns-2
 returns-2 c = rw (ne-eqb _ _ (c .if1 .left)) (refl, omega arith)
 
 pub change-spec : {M : Type 1} → statement M
-change-spec =
-    tie.close
-    (tie.spec
-    returns
-    returns-2)
+change-spec = tie.close (tie.spec returns returns-2)

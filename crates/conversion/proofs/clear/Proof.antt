@@ -1,5 +1,5 @@
 -- Each turn clears one mark more.
-use mathlib.Core.Path.{_≡_, refl, _∙_}
+use mathlib.Core.Path.{_≡_, _∙_}
 use Prim.Native.Nat.{ℕ, _≤_, _-_}
 use native.Mathlib.Omega.{arith}
 use lib.ListN.{length, take, replicate, length-set, replicate-append-replicate}
@@ -15,33 +15,21 @@ Inv-loop marks₀ i₀ marks i = (i ≤ length marks₀) × (length marks ≡ le
 abbrev μ-loop : tie.MeasureT-loop
 μ-loop marks₀ i₀ marks i = length marks₀ - i
 
-loop-holds : tie.Need-loop-holds Inv-loop μ-loop
-loop-holds c = (omega arith, refl, refl)
-
 loop-again : tie.Need-loop-again Inv-loop μ-loop
 loop-again c =
     let l = c .before .loop in (
-      omega (arith, l .inv .1, c .loop-test .taken),
+      omega arith,
       simp length-set (l .inv .1),
-      take-next (l .marks) (l .i) 0 (c .loop-test .taken) ∙ rw (l .inv .2, replicate-append-replicate {A = ℕ} (l .i) 1 0),
+      take-next (l .marks) _ 0 (c .loop-test .taken) ∙ rw (l .inv .2, replicate-append-replicate {A = ℕ} (l .i) 1 0),
     )
 
 returns : tie.Need-returns Inv-loop μ-loop
 returns c =
     let l = c .before .loop in
-    let n : l .i ≡ length (l .marks) = omega (arith, l .inv .0, l .inv .1, c .loop-test .left) in
+    let n : l .i ≡ length (l .marks) = omega arith in
     rw (n, take-length, l .inv .1) at (l .inv .2)
 
 pub clear-spec : {M : Type 1} → statement M
 clear-spec =
-    tie.close
-    (tie.spec
-    Inv-loop
-    μ-loop
-    loop-holds
-    (λ c. search needs)
-    (λ c. search needs)
-    (λ c. search needs)
-    loop-again
-    (λ c. search needs)
-    returns)
+    tie.close (tie.spec Inv-loop μ-loop (λ c. search needs) (λ c. search needs) (λ c. search needs) (λ c. search needs)
+    loop-again (λ c. search needs) returns)

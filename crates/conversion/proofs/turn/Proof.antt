@@ -21,52 +21,33 @@ abbrev μ-loop : tie.MeasureT-loop
 loop-holds : tie.Need-loop-holds Inv-loop μ-loop
 loop-holds c = (omega arith, refl, sym (turned-none _), sym (changes-none _), omega arith)
 
-shared-slice-read-turned-word : tie.Need-shared-slice-read-turned-word Inv-loop μ-loop
-shared-slice-read-turned-word c = omega (arith, c .before .before .loop-test .taken, c .before .before .before .loop .inv .1, c .before .before .before .before .before .before .pre)
-
-add-count : tie.Need-add-count Inv-loop μ-loop
-add-count c = omega (arith, c .change .ensures .1, c .before .before .before .before .before .loop .inv .4, c .before .before .before .before .loop-test .taken)
-
 loop-again : tie.Need-loop-again Inv-loop μ-loop
 loop-again c =
-    let l = c .before .before .before .before .before .loop in
-    let a = c .before .before .before .before .before .before .before .before .args in
-    let here : l .i < length (a .mem .now) = omega (arith, l .inv .1, c .before .before .before .before .loop-test .taken) in
-    let marked : l .i < length (a .marks .now) = omega (arith, here, c .before .before .before .before .before .before .before .before .pre) in
-    let same : getD (l .mem) (l .i) 0 ≡ getD (a .mem .now) (l .i) 0 = ap (λ (xs : List ℕ). getD xs (l .i) 0) (l .inv .2) ∙ turned-at (l .i) (a .marks .now) (a .mem .now) in
-    let value = c .before .turned-word .ensures ∙ ap (turned (getD (a .marks .now) (l .i) 0)) same in (
-      omega (arith, here),
+    let at-turned-word = c .before in
+    let turn = at-turned-word .before .before .before .before in
+    let l = turn .loop in
+    let a = turn .before .before .before .args in
+    let here : l .i < length (a .mem .now) = omega arith in
+    let marked : l .i < length (a .marks .now) = omega arith in
+    let same : getD (l .mem) (l .i) 0 ≡ getD (a .mem .now) (l .i) 0 = ap (λ (xs : List ℕ). getD xs (l .i) 0) (l .inv .2) ∙ turned-at _ _ (a .mem .now) in
+    let value = at-turned-word .turned-word .ensures ∙ ap (turned (getD (a .marks .now) (l .i) 0)) same in (
+      omega arith,
       simp length-set (l .inv .1),
-      ap₂ (λ (xs : List ℕ) (v : ℕ). set xs (l .i) v) (l .inv .2) value ∙ turned-more (l .i) (a .marks .now) (a .mem .now) marked here,
-      ap₂ _+_ (l .inv .3) (c .change .ensures .0 ∙ ap (λ (x : ℕ). change x (c .before .turned-word .result)) same)
-          ∙ sym (changes-more (l .i) (c .before .turned-word .result) (a .mem .now) (l .mem) here (l .inv .1) same),
-      omega (arith, l .inv .4, c .change .ensures .1),
+      ap₂ (λ (xs : List ℕ) (v : ℕ). set xs (l .i) v) (l .inv .2) value ∙ turned-more _ _ (a .mem .now) marked here,
+      ap₂ _+_ (l .inv .3) (c .change .ensures .0 ∙ ap (λ (x : ℕ). change x (at-turned-word .turned-word .result)) same)
+          ∙ sym (changes-more _ _ (a .mem .now) (l .mem) here (l .inv .1) same),
+      omega arith,
     )
 
 returns : tie.Need-returns Inv-loop μ-loop
 returns c =
     let l = c .before .loop in
     let a = c .before .before .before .before .args in
-    let whole = l .inv .2 ∙ ap (λ (ks : List ℕ). turnedMemory ks (a .mem .now)) (take-all (l .i) (a .marks .now) (omega (arith, l .inv .1, c .before .before .before .before .pre, c .loop-test .left))) in
-    (whole, l .inv .3 ∙ ap (changes (a .mem .now)) whole, omega (arith, l .inv .4, l .inv .0))
+    let whole = l .inv .2 ∙ ap (λ (ks : List ℕ). turnedMemory ks (a .mem .now)) (take-all (l .i) (a .marks .now) (omega arith)) in
+    (whole, l .inv .3 ∙ ap (changes (a .mem .now)) whole, omega arith)
 
 pub turn-spec : {M : Type 1} → statement M
 turn-spec =
-    tie.close
-    (tie.spec
-    Inv-loop
-    μ-loop
-    loop-holds
-    (λ c. search needs)
-    (λ c. search needs)
-    shared-slice-read-turned-word
-    (λ c κs. search needs)
-    (λ c. search needs)
-    (λ c. search needs)
-    (λ c κs. search needs)
-    add-count
-    (λ c. search needs)
-    (λ c. search needs)
-    loop-again
-    (λ c. search needs)
-    returns)
+    tie.close (tie.spec Inv-loop μ-loop loop-holds (λ c. search needs) (λ c. search needs) (λ c. omega arith)
+    (λ c κs. search needs) (λ c. search needs) (λ c. search needs) (λ c κs. search needs) (λ c. omega arith)
+    (λ c. search needs) (λ c. search needs) loop-again (λ c. search needs) returns)

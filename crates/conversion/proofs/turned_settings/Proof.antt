@@ -9,9 +9,4 @@ unfolding turnedSettings
 returns c = rw (c .before .turned-register .ensures, c .turned-register2 .ensures)
 
 pub turned-settings-spec : {M : Type 1} → statement M
-turned-settings-spec =
-    tie.close
-    (tie.spec
-    (λ c κs. search needs)
-    (λ c κs. search needs)
-    returns)
+turned-settings-spec = tie.close (tie.spec (λ c κs. search needs) (λ c κs. search needs) returns)

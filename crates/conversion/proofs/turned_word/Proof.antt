@@ -10,8 +10,4 @@ returns-2 : tie.Need-returns-2
 returns-2 c = rw (ne-eqb _ 1 (c .if1 .left))
 
 pub turned-word-spec : {M : Type 1} → statement M
-turned-word-spec =
-    tie.close
-    (tie.spec
-    returns
-    returns-2)
+turned-word-spec = tie.close (tie.spec returns returns-2)

@@ -17,13 +17,5 @@ returns-3 c = rw (c .before .before .script3 .given .1) (cc)
 
 pub begin-spec : {M : Type 1} → statement M
 begin-spec =
-    tie.close
-    (tie.spec
-    (λ c. search needs)
-    (λ c κs. search needs)
-    (λ c. search needs)
-    (λ c. search needs)
-    (λ c κs. search needs)
-    returns
-    returns-2
-    returns-3)
+    tie.close (tie.spec (λ c. search needs) (λ c κs. search needs) (λ c. search needs) (λ c. search needs)
+    (λ c κs. search needs) returns returns-2 returns-3)

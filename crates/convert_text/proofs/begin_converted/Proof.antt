@@ -23,11 +23,5 @@ returns-2 c =
 
 pub begin-converted-spec : {M : Type 1} → statement M
 begin-converted-spec =
-    tie.close
-    (tie.spec
-    (λ c. search needs)
-    (λ c κs. search needs)
-    (λ c. search needs)
-    (λ c. search needs)
-    returns
+    tie.close (tie.spec (λ c. search needs) (λ c κs. search needs) (λ c. search needs) (λ c. search needs) returns
     returns-2)

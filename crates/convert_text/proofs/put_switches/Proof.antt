@@ -12,10 +12,4 @@ returns c =
     (rw (p .0) at (p .1)) ∙ rw (c .before .before .before .switches-of .ensures)
 
 pub put-switches-spec : {M : Type 1} → statement M
-put-switches-spec =
-    tie.close
-    (tie.spec
-    (λ c κs. search needs)
-    (λ c. search needs)
-    (λ c κs. search needs)
-    returns)
+put-switches-spec = tie.close (tie.spec (λ c κs. search needs) (λ c. search needs) (λ c κs. search needs) returns)

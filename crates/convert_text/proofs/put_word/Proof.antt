@@ -17,22 +17,12 @@ returns-2 c =
     let p = c .before .before .put .ensures in
     let b = c .before .before .before .before .before in
     let a = b .before .before .before .before .before .before .args in (
-      omega (arith, p .0),
+      omega arith,
       p .1 ∙ rw (its-record (a .i) (a .w) (b .before .before .before .before .if1 .left), b .low-byte2 .ensures, b .before .high-byte2 .ensures, b .before .before .low-byte .ensures, b .before .before .before .high-byte .ensures),
     )
 
 pub put-word-spec : {M : Type 1} → statement M
 put-word-spec =
-    tie.close
-    (tie.spec
-    returns
-    (λ c. search needs)
-    (λ c. search needs)
-    (λ c κs. search needs)
-    (λ c κs. search needs)
-    (λ c κs. search needs)
-    (λ c κs. search needs)
-    (λ c. search needs)
-    (λ c κs. search needs)
-    (λ c. search needs)
+    tie.close (tie.spec returns (λ c. search needs) (λ c. search needs) (λ c κs. search needs) (λ c κs. search needs)
+    (λ c κs. search needs) (λ c κs. search needs) (λ c. search needs) (λ c κs. search needs) (λ c. search needs)
     returns-2)

@@ -1,5 +1,5 @@
 -- What is written, then the records of the words from i on, are those from the first on: each turn writes one word's, six bytes at most.
-use mathlib.Core.Path.{_≡_, refl}
+use mathlib.Core.Path.{_≡_}
 use mathlib.Core.List.{_++_}
 use Prim.Native.Nat.{_+_, _-_, _*_, _≤_}
 use native.Mathlib.Omega.{arith}
@@ -17,17 +17,16 @@ Inv-loop from end mem out₀ at₀ i₀ out at i =
 abbrev μ-loop : tie.MeasureT-loop
 μ-loop from end mem out₀ at₀ i₀ out at i = end - i
 
-loop-holds : tie.Need-loop-holds Inv-loop μ-loop
-loop-holds c = (omega (arith, c .before .before .pre .0), search needs, omega arith, refl)
-
 loop-again : tie.Need-loop-again Inv-loop μ-loop
 loop-again c =
-    let p = c .before .before .put-word in
-    let l = c .before .before .before .before .before .before .loop in
-    let m = c .before .before .before .before .before .before .before .before .before .args .mem .now in (
+    let at-put-word = c .before .before in let at-loop = at-put-word .before .before .before .before in
+    let start = at-loop .before .before .before in
+    let p = at-put-word .put-word in
+    let l = at-loop .loop in
+    let m = start .args .mem .now in (
       omega arith,
       search needs,
-      omega (arith, p .ensures .0),
+      omega arith,
       word-more m _ (take (l .at) (l .out)) (take (p .result) (p .last .0)) (l .i) (omega arith) (l .inv .3) (p .ensures .1),
     )
 
@@ -39,16 +38,5 @@ returns c =
 
 pub put-words-spec : {M : Type 1} → statement M
 put-words-spec =
-    tie.close
-    (tie.spec
-    Inv-loop
-    μ-loop
-    loop-holds
-    (λ c. search needs)
-    (λ c. search needs)
-    (λ c κs. search needs)
-    (λ c. search needs)
-    (λ c. search needs)
-    loop-again
-    (λ c. search needs)
-    returns)
+    tie.close (tie.spec Inv-loop μ-loop (λ c. search needs) (λ c. search needs) (λ c. search needs)
+    (λ c κs. search needs) (λ c. search needs) (λ c. search needs) loop-again (λ c. search needs) returns)

@@ -6,13 +6,5 @@ use Rattle.latch.proofs.chosen_latch.Tie as tie
 returns : tie.Need-returns
 returns c = rw (c .before .if1 .taken) (c .segment-latch .ensures)
 
-returns-2 : tie.Need-returns-2
-returns-2 c = rw (c .if1 .left)
-
 pub chosen-latch-spec : {M : Type 1} → statement M
-chosen-latch-spec =
-    tie.close
-    (tie.spec
-    (λ c κs. search needs)
-    returns
-    returns-2)
+chosen-latch-spec = tie.close (tie.spec (λ c κs. search needs) returns (λ c. search needs))

@@ -19,20 +19,15 @@ returns-2 c =
 returns-3 : tie.Need-returns-3
 unfolding overRow overParts
 returns-3 c =
+    let within = c .before in
+    let left-of-it = within .before in
+    let overlaid = left-of-it .before .before in
+    let no-fill-flag = overlaid .before .before in
     row-ends _ _ _ _ _
-    (rw (c .before .before .before .before .before .before .if1 .left, c .before .before .before .before .overlay .given .1)
-    (c .side-latch4 .ensures ∙ rw (c .before .side-latch3 .ensures, c .before .before .side-latch2 .ensures, whole-all)))
+    (rw (no-fill-flag .if1 .left, overlaid .overlay .given .1)
+    (c .side-latch4 .ensures ∙ rw (within .side-latch3 .ensures, left-of-it .side-latch2 .ensures, whole-all)))
 
 pub row-latch-spec : {M : Type 1} → statement M
 row-latch-spec =
-    tie.close
-    (tie.spec
-    returns
-    (λ c. search needs)
-    (λ c κs. search needs)
-    (λ c. search needs)
-    (λ c κs. search needs)
-    (λ c κs. search needs)
-    (λ c κs. search needs)
-    returns-2
-    returns-3)
+    tie.close (tie.spec returns (λ c. search needs) (λ c κs. search needs) (λ c. search needs) (λ c κs. search needs)
+    (λ c κs. search needs) (λ c κs. search needs) returns-2 returns-3)

@@ -27,44 +27,35 @@ loop-holds c = (omega arith, omega arith, rw segments-all)
 
 add-at : tie.Need-add-at Inv-loop μ-loop
 add-at c =
-    let y = c .before .before .before .before .before .before in
-    let g = c .before .before .before .before .segment-at in
-    omega (arith, y .loop .inv .0, y .loop .inv .1, y .before .before .before .good .1 .1 .1 .1 .0 .1 .1 .0 .1, width-byte (y .before .before .before .args .settings .hidden) (g .result) (g .ok .1 .1 .1 .1 .0 .1) (g .ok .1 .1 .1 .1 .1 .0 .1), c .before .before .before .width .ensures)
+    let at-segment-at = c .before .before .before .before in
+    let at-loop = at-segment-at .before .before in
+    let g = at-segment-at .segment-at in
+    omega (arith, width-byte (at-loop .before .before .before .args .settings .hidden) (g .result) (g .ok .1 .1 .1 .1 .0 .1) (g .ok .1 .1 .1 .1 .1 .0 .1))
 
 loop-again : tie.Need-loop-again Inv-loop μ-loop
 loop-again c =
-    let y = c .before .before .before .before .before .before in
-    let a = y .before .before .before .args in
-    let l = y .loop in
-    let g = c .before .before .before .before .segment-at in (
-      omega (arith, c .before .before .before .before .before .loop-test .taken),
-      omega (arith, width-byte (a .settings .hidden) (g .result) (g .ok .1 .1 .1 .1 .0 .1) (g .ok .1 .1 .1 .1 .1 .0 .1), c .before .before .before .width .ensures),
+    let at-chosen-latch = c .before in
+    let at-on-side = at-chosen-latch .before in
+    let at-width = at-on-side .before in
+    let at-segment-at = at-width .before in
+    let at-loop = at-segment-at .before .before in
+    let a = at-loop .before .before .before .args in
+    let l = at-loop .loop in
+    let g = at-segment-at .segment-at in (
+      omega arith,
+      omega (arith, width-byte (a .settings .hidden) (g .result) (g .ok .1 .1 .1 .1 .0 .1) (g .ok .1 .1 .1 .1 .1 .0 .1)),
       l .inv .2
-          ∙ side-more (a .settings) (a .mem .now) (a .side) (a .count) (a .segments .now) (l .at) (l .i) (l .made) (omega arith)
-          ∙ rw (c .join .ensures, c .before .chosen-latch .ensures, c .before .before .on-side .ensures, c .before .before .before .width .ensures, g .ensures),
+          ∙ side-more _ _ _ _ _ (l .at) (l .i) (l .made) (omega arith)
+          ∙ rw (c .join .ensures, at-chosen-latch .chosen-latch .ensures, at-on-side .on-side .ensures, at-width .width .ensures, g .ensures),
     )
 
 returns : tie.Need-returns Inv-loop μ-loop
 returns c =
-    let a = c .before .before .before .before .args in
     let l = c .before .loop in
-    sym (l .inv .2 ∙ side-none (a .settings) (a .mem .now) (a .side) (a .count) (a .segments .now) (l .at) (l .i) (l .made) (omega arith))
+    sym (l .inv .2 ∙ side-none _ _ _ _ _ _ _ _ (omega arith))
 
 pub side-latch-spec : {M : Type 1} → statement M
 side-latch-spec =
-    tie.close
-    (tie.spec
-    Inv-loop
-    μ-loop
-    (λ c. search needs)
-    loop-holds
-    (λ c κs. search needs)
-    (λ c κs. search needs)
-    (λ c κs. search needs)
-    (λ c κs. search needs)
-    (λ c κs. search needs)
-    add-at
-    (λ c. search needs)
-    (λ c. search needs)
-    loop-again
-    returns)
+    tie.close (tie.spec Inv-loop μ-loop (λ c. search needs) loop-holds (λ c κs. search needs) (λ c κs. search needs)
+    (λ c κs. search needs) (λ c κs. search needs) (λ c κs. search needs) add-at (λ c. search needs) (λ c. search needs)
+    loop-again returns)

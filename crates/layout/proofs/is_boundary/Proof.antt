@@ -1,3 +1,4 @@
+-- A place is a boundary of all segments where it is one of those from i on, which begin at `at`; a width is a byte.
 use mathlib.Core.Path.{_≡_, sym, _∙_}
 use Prim.Native.Nat.{_≤_, _-_, _*_}
 use native.Mathlib.Omega.{arith}
@@ -33,7 +34,7 @@ returns c =
 add-at : tie.Need-add-at Inv-loop μ-loop
 add-at c =
     let s = c .before .segment-at in
-    omega (arith, width-byte (c .before .before .before .before .before .before .args .hidden) (s .result) (search needs) (search needs), c .width .ensures)
+    omega (arith, width-byte (c .before .before .before .before .before .before .args .hidden) (s .result) (search needs) (search needs))
 
 loop-again : tie.Need-loop-again Inv-loop μ-loop
 unfolding boundary
@@ -43,7 +44,7 @@ loop-again c =
     let s = c .before .segment-at in
     let g = segments-more (a .linear) (a .count) (a .words .now) (l .i) (omega arith) in (
       omega arith,
-      omega (arith, width-byte (a .hidden) (s .result) (search needs) (search needs), c .width .ensures),
+      omega (arith, width-byte (a .hidden) (s .result) (search needs) (search needs)),
       l .inv .2 ∙ rw (g, ne-eqb _ _ (c .before .before .if1 .left), c .width .ensures, s .ensures),
     )
 
@@ -56,17 +57,5 @@ returns-2 c =
 
 pub is-boundary-spec : {M : Type 1} → statement M
 is-boundary-spec =
-    tie.close
-    (tie.spec
-    Inv-loop
-    μ-loop
-    (λ c. search needs)
-    loop-holds
-    returns
-    (λ c κs. search needs)
-    (λ c κs. search needs)
-    add-at
-    (λ c. search needs)
-    (λ c. search needs)
-    loop-again
-    returns-2)
+    tie.close (tie.spec Inv-loop μ-loop (λ c. search needs) loop-holds returns (λ c κs. search needs)
+    (λ c κs. search needs) add-at (λ c. search needs) (λ c. search needs) loop-again returns-2)

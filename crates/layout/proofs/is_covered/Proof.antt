@@ -1,3 +1,4 @@
+-- The test without the sum is the rule's where the segment begins by the window's end; past it the window covers nothing.
 use lib.Dec.{leb}
 use Rattle.layout.specs.Layout.{covered}
 use Rattle.memory.proofs.RunLaws.{ends-by}
@@ -16,8 +17,4 @@ returns-2 c =
     ends-past (leb (a .first) (a .s)) (a .s) (a .w) (a .end) (c .if1 .left)
 
 pub is-covered-spec : {M : Type 1} → statement M
-is-covered-spec =
-    tie.close
-    (tie.spec
-    returns
-    returns-2)
+is-covered-spec = tie.close (tie.spec returns returns-2)

@@ -1,3 +1,4 @@
+-- Check 9 and the sum so far, with those of the segments from i on, are those of all; a width is a byte, so no sum is too large.
 use mathlib.Core.Path.{_≡_, sym, _∙_}
 use mathlib.Core.Bool.{_&&_, and-assoc, and-true}
 use Prim.Native.Nat.{_≤_, _+_, _-_, _*_}
@@ -27,7 +28,7 @@ loop-holds c = (omega arith, omega arith, rw segments-all, rw segments-all (omeg
 add-sum : tie.Need-add-sum Inv-loop μ-loop
 add-sum c =
     let s = c .before .before .segment-at in
-    omega (arith, width-byte (c .before .before .before .before .before .before .args .hidden) (s .result) (search needs) (search needs), c .width .ensures)
+    omega (arith, width-byte (c .before .before .before .before .before .before .args .hidden) (s .result) (search needs) (search needs))
 
 loop-again : tie.Need-loop-again Inv-loop μ-loop
 unfolding allFit total
@@ -37,7 +38,7 @@ loop-again c =
     let s = c .before .before .segment-at in
     let g = segments-more (a .linear) (a .count) (a .words .now) (l .i) (omega arith) in (
       omega arith,
-      omega (arith, width-byte (a .hidden) (s .result) (search needs) (search needs), c .width .ensures),
+      omega (arith, width-byte (a .hidden) (s .result) (search needs) (search needs)),
       l .inv .2 ∙ rw (g, c .before .fits2 .ensures, s .ensures) (sym (and-assoc (l .fit) _ _)),
       l .inv .3 ∙ rw (g, c .width .ensures, s .ensures) (sym (add-assoc (l .sum) _ _)),
     )
@@ -52,17 +53,5 @@ returns c =
 
 pub measure-segments-spec : {M : Type 1} → statement M
 measure-segments-spec =
-    tie.close
-    (tie.spec
-    Inv-loop
-    μ-loop
-    (λ c. search needs)
-    loop-holds
-    (λ c κs. search needs)
-    (λ c κs. search needs)
-    (λ c κs. search needs)
-    add-sum
-    (λ c. search needs)
-    (λ c. search needs)
-    loop-again
-    returns)
+    tie.close (tie.spec Inv-loop μ-loop (λ c. search needs) loop-holds (λ c κs. search needs) (λ c κs. search needs)
+    (λ c κs. search needs) add-sum (λ c. search needs) (λ c. search needs) loop-again returns)

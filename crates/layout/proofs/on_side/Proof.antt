@@ -1,3 +1,4 @@
+-- Each side has its line of `onSide`.
 use Rattle.layout.specs.Layout.{onSide}
 use borrow.Author.Needs.{needs}
 use Rattle.layout.proofs.on_side.Statement.{statement}
@@ -17,12 +18,5 @@ returns-3 c = rw (c .before .before .side2 .given .1, c .is-covered .ensures)
 
 pub on-side-spec : {M : Type 1} → statement M
 on-side-spec =
-    tie.close
-    (tie.spec
-    (λ c. search needs)
-    (λ c. search needs)
-    (λ c. search needs)
-    (λ c κs. search needs)
-    returns
-    returns-2
-    returns-3)
+    tie.close (tie.spec (λ c. search needs) (λ c. search needs) (λ c. search needs) (λ c κs. search needs) returns
+    returns-2 returns-3)

@@ -14,10 +14,4 @@ returns-2 : tie.Need-returns-2
 returns-2 c = rw (ne-eqb _ _ (c .before .before .before .before .if1 .left)) (c .before .before .put-sequence .ensures)
 
 pub put-change-spec : {M : Type 1} → statement M
-put-change-spec =
-    tie.close
-    (tie.spec
-    returns
-    (λ c κs. search needs)
-    (λ c. search needs)
-    returns-2)
+put-change-spec = tie.close (tie.spec returns (λ c κs. search needs) (λ c. search needs) returns-2)

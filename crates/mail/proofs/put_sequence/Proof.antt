@@ -1,5 +1,5 @@
 -- Each call writes its piece after the ones before, so the pieces are the sequence's, one after the other.
-use mathlib.Core.Path.{_≡_, _∙_}
+use mathlib.Core.Path.{_∙_}
 use native.Mathlib.Omega.{arith}
 use lib.ListN.{take}
 use Rattle.mail.proofs.TextLaws.{pieces}
@@ -15,26 +15,13 @@ returns c =
     let underline = blink .before .before .before .before .before in
     let highlight = underline .before .before .before .before .before in
     let first = highlight .before .before .before .before .before in (
-      omega (arith, first .put .ensures .ends, highlight .put-if .ensures .0, underline .put-if2 .ensures .0, blink .put-if3 .ensures .0, reverse .put-if4 .ensures .0, last .put2 .ensures .ends),
+      omega arith,
       last .put2 .ensures .front
-          ∙ rw (reverse .put-if4 .ensures .1, blink .put-if3 .ensures .1, underline .put-if2 .ensures .1, highlight .put-if .ensures .1, first .put .ensures .front) (pieces (take (first .before .before .before .before .args .at) (first .before .before .before .before .args .out .now)) (first .before .before .before .before .args .marks)),
+          ∙ rw (reverse .put-if4 .ensures .1, blink .put-if3 .ensures .1, underline .put-if2 .ensures .1, highlight .put-if .ensures .1, first .put .ensures .front) (pieces (take (first .before .before .before .before .args .at) (first .before .before .before .before .args .out .now)) _),
     )
 
 pub put-sequence-spec : {M : Type 1} → statement M
 put-sequence-spec =
-    tie.close
-    (tie.spec
-    (λ c. search needs)
-    (λ c κs. search needs)
-    (λ c. search needs)
-    (λ c κs. search needs)
-    (λ c. search needs)
-    (λ c κs. search needs)
-    (λ c. search needs)
-    (λ c κs. search needs)
-    (λ c. search needs)
-    (λ c κs. search needs)
-    (λ c. search needs)
-    (λ c κs. search needs)
-    (λ c. search needs)
-    returns)
+    tie.close (tie.spec (λ c. search needs) (λ c κs. search needs) (λ c. search needs) (λ c κs. search needs)
+    (λ c. search needs) (λ c κs. search needs) (λ c. search needs) (λ c κs. search needs) (λ c. search needs)
+    (λ c κs. search needs) (λ c. search needs) (λ c κs. search needs) (λ c. search needs) returns)

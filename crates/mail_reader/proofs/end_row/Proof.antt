@@ -1,9 +1,7 @@
 -- The tests are the definition's; the answer's offset is counted from the text's start.
-use mathlib.Core.Path.{_≡_, sym, ap, _∙_}
-use mathlib.Core.List.{List, append-nil}
-use Prim.Native.Nat.{ℕ, _+_, _≤_, max}
+use mathlib.Core.Path.{sym, ap}
+use mathlib.Core.List.{append-nil}
 use native.Mathlib.Omega.{arith}
-use lib.ListN.{length, take}
 use borrow.Author.Tests.{eq-eqb, ne-eqb}
 use Rattle.mail.specs.Mail.{rowEnd}
 use Rattle.mail_reader.specs.Reader.{row, common}
@@ -17,9 +15,8 @@ returns c = λ cells h. (rw (eq-eqb _ 0 (c .if1 .taken)), omega arith)
 
 add-t16 : tie.Need-add-t16
 add-t16 c =
-    let e = c .before .before .common .ensures in
     let l = common-left rowEnd (c .before .before .before .before .before .before .args .text .now) in
-    omega (arith, c .larger .ensures)
+    omega arith
 
 returns-2 : tie.Need-returns-2
 returns-2 c = λ cells h. (rw (ne-eqb _ 0 (c .before .before .before .if1 .left), ← c .before .common .ensures, c .if2 .taken) (ap row (sym (append-nil _))), h)
@@ -27,17 +24,9 @@ returns-2 c = λ cells h. (rw (ne-eqb _ 0 (c .before .before .before .if1 .left)
 returns-3 : tie.Need-returns-3
 returns-3 c = λ cells h.
     let l = common-left rowEnd (c .before .before .before .before .before .before .args .text .now) in
-    (rw (ne-eqb _ 0 (c .before .before .before .before .if1 .left), ← c .before .before .common .ensures, c .before .if2 .left, c .larger .ensures), omega (arith, c .larger .ensures, c .before .before .common .ensures))
+    (rw (ne-eqb _ 0 (c .before .before .before .before .if1 .left), ← c .before .before .common .ensures, c .before .if2 .left, c .larger .ensures), omega arith)
 
 pub end-row-spec : {M : Type 1} → statement M
 end-row-spec =
-    tie.close
-    (tie.spec
-    (λ c. search needs)
-    returns
-    (λ c. search needs)
-    (λ c κs. search needs)
-    (λ c κs. search needs)
-    add-t16
-    returns-2
-    returns-3)
+    tie.close (tie.spec (λ c. search needs) returns (λ c. search needs) (λ c κs. search needs) (λ c κs. search needs)
+    add-t16 returns-2 returns-3)

@@ -11,25 +11,19 @@ use Rattle.mail_reader.proofs.read_row.Tie as tie
 returns : tie.Need-returns
 returns c =
     let e = c .before .common .ensures in
-    rw e (other-start (c .before .before .before .before .before .args .text .now) (rw e at (c .if1 .taken)))
+    rw e (other-start _ (rw e at (c .if1 .taken)))
 
 read-cells-requires : tie.Need-read-cells-requires
 read-cells-requires c κs =
     let s = c .before .before .before .before .before .before in
-    (omega (arith, c .before .if1 .left, c .before .before .common .ensures, common-right rowStart (s .args .text .now)), s .pre)
+    (omega (arith, common-right rowStart (s .args .text .now)), s .pre)
 
 returns-2 : tie.Need-returns-2
 returns-2 c =
     let r = c .before .before .read-cells .ensures in
-    (r .0 ∙ right-start (c .before .before .before .before .before .before .before .before .before .args .text .now) (rw (c .before .before .before .before .before .common .ensures) at (c .before .before .before .before .if1 .left)), r .1)
+    (r .0 ∙ right-start _ (rw (c .before .before .before .before .before .common .ensures) at (c .before .before .before .before .if1 .left)), r .1)
 
 pub read-row-spec : {M : Type 1} → statement M
 read-row-spec =
-    tie.close
-    (tie.spec
-    (λ c. search needs)
-    (λ c κs. search needs)
-    returns
-    read-cells-requires
-    (λ c. search needs)
+    tie.close (tie.spec (λ c. search needs) (λ c κs. search needs) returns read-cells-requires (λ c. search needs)
     returns-2)

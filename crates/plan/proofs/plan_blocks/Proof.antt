@@ -8,19 +8,33 @@ use borrow.Author.Needs.{needs}
 use Rattle.plan.proofs.plan_blocks.Statement.{statement}
 use Rattle.plan.proofs.plan_blocks.Tie as tie
 
+-- where the window's row is read, the background before it, the window due before that, and the function's start
+abbrev over : tie.After-edges-fit → tie.After-overlay
+over c = c .before .before .before .before
+
+abbrev back : tie.After-overlay → tie.After-block
+back c = c .before .before .before .before .before
+
+abbrev due : tie.After-block → tie.After-window
+due c = c .before .before .before .before .before
+
+abbrev start : tie.After-window → tie.Start
+start c = c .before .before .before .before
+
 due-window-requires : tie.Need-due-window-requires
-due-window-requires c κs = numbered (c .before .args .fields) (c .before .pre .0)
+due-window-requires c κs = numbered _ (c .before .pre .0)
 
 next-fields-requires : tie.Need-next-fields-requires
-next-fields-requires c κs = c .before .before .before .before .before .before .before .before .before .before .before .before .before .before .before .before .before .before .before .before .pre .1
+next-fields-requires c κs = start (due (back (over (c .before .before)))) .pre .1
 
 -- the words of the window block, of the row block with its redefinition, and of the window row block
 few-words : (c : tie.After-struct-known)
-    → c .before .before .before .before .before .before .before .before .before .before .before .before .before .before .before .before .before .before .before .window .given .0 .1 .0
-    + c .before .before .before .before .before .before .before .before .before .before .before .before .before .before .block .given .0 .0 .words
-    + c .before .before .before .before .before .before .before .before .before .overlay .given .0 .1 .1 .0 ≤ 167
+    → due (back (over (c .before .before .before .before .before))) .window .given .0 .1 .0
+    + back (over (c .before .before .before .before .before)) .block .given .0 .0 .words
+    + over (c .before .before .before .before .before) .overlay .given .0 .1 .1 .0 ≤ 167
 few-words c =
-    let x = c .before .before .before .before .before .before .before .before .before in
+    let at-edges-fit = c .before .before .before .before .before in
+    let x = at-edges-fit .before .before .before .before in
     let y = x .before .before .before .before .before in
     let z = y .before .before .before .before .before in
     let o = sym (rw (x .overlay .given .1) at (x .before .before .overlay-row .ensures)) in
@@ -29,32 +43,28 @@ few-words c =
     let a = z .before .before .before .before in
     plan-words _ (a .args .settings) (a .args .fields) w g o (λ i. z .before .before .before .shared-slice-known .given i .fits) (a .pre .0)
 
-add-t32 : tie.Need-add-t32
-add-t32 c = omega (arith, few-words c)
-
-add-t33 : tie.Need-add-t33
-add-t33 c = omega (arith, few-words c)
-
 returns : tie.Need-returns
 returns c =
-    let x = c .before .before .before .before .before .before .before .before .before in
+    let fit = c .before .before .before .before in
+    let x = fit .before .before .before .before .before in
     let y = x .before .before .before .before .before in
     let z = y .before .before .before .before .before in
     let o = sym (rw (x .overlay .given .1) at (x .before .before .overlay-row .ensures)) in
     let g = sym (rw (y .block .given .1) at (y .before .before .background-row .ensures)) in
     let w = sym (rw (z .window .given .1) at (z .before .before .due-window .ensures)) in
     rw (c .before .lines-taken .ensures, c .before .before .next-fields .ensures)
-    (sym (edges-on _ _ _ w g o (sym (c .before .before .before .before .before .edges-fit .ensures _) ∙ c .before .before .before .before .if1 .taken)))
+    (sym (edges-on _ _ _ w g o (sym (fit .before .edges-fit .ensures _) ∙ fit .if1 .taken)))
 
 returns-2 : tie.Need-returns-2
 returns-2 c =
-    let x = c .before .before .before .before .before .before in
+    let unfit = c .before in
+    let x = unfit .before .before .before .before .before in
     let y = x .before .before .before .before .before in
     let z = y .before .before .before .before .before in
     let o = sym (rw (x .overlay .given .1) at (x .before .before .overlay-row .ensures)) in
     let g = sym (rw (y .block .given .1) at (y .before .before .background-row .ensures)) in
     let w = sym (rw (z .window .given .1) at (z .before .before .due-window .ensures)) in
-    rw (c .refused .ensures) (sym (edges-off _ _ _ w g o (sym (c .before .before .edges-fit .ensures _) ∙ c .before .if1 .left)))
+    rw (c .refused .ensures) (sym (edges-off _ _ _ w g o (sym (unfit .before .edges-fit .ensures _) ∙ unfit .if1 .left)))
 
 returns-3 : tie.Need-returns-3
 returns-3 c =
@@ -75,25 +85,7 @@ returns-5 c = sym (window-refused _ _ _ (sym (rw (c .before .fault3 .given .1) a
 
 pub plan-blocks-spec : {M : Type 1} → statement M
 plan-blocks-spec =
-    tie.close
-    (tie.spec
-    due-window-requires
-    (λ c. search needs)
-    (λ c κs. search needs)
-    (λ c. search needs)
-    (λ c κs. search needs)
-    (λ c. search needs)
-    (λ c κs. search needs)
-    next-fields-requires
-    (λ c κs. search needs)
-    add-t32
-    add-t33
-    (λ c κs. search needs)
-    (λ c. search needs)
-    (λ c. search needs)
-    (λ c. search needs)
-    returns
-    returns-2
-    returns-3
-    returns-4
-    returns-5)
+    tie.close (tie.spec due-window-requires (λ c. search needs) (λ c κs. search needs) (λ c. search needs)
+    (λ c κs. search needs) (λ c. search needs) (λ c κs. search needs) next-fields-requires (λ c κs. search needs)
+    (λ c. omega (arith, few-words c)) (λ c. omega (arith, few-words c)) (λ c κs. search needs) (λ c. search needs)
+    (λ c. search needs) (λ c. search needs) returns returns-2 returns-3 returns-4 returns-5)

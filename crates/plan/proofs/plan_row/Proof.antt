@@ -21,12 +21,5 @@ returns-2 c =
 
 pub plan-row-spec : {M : Type 1} → statement M
 plan-row-spec =
-    tie.close
-    (tie.spec
-    (λ c κs. search needs)
-    (λ c. search needs)
-    (λ c. search needs)
-    written-linear-requires
-    (λ c κs. search needs)
-    returns
-    returns-2)
+    tie.close (tie.spec (λ c κs. search needs) (λ c. search needs) (λ c. search needs) written-linear-requires
+    (λ c κs. search needs) returns returns-2)

@@ -30,12 +30,5 @@ returns-3 c =
 
 pub plan-state-spec : {M : Type 1} → statement M
 plan-state-spec =
-    tie.close
-    (tie.spec
-    (λ c κs. search needs)
-    (λ c κs. search needs)
-    returns
-    (λ c κs. search needs)
-    returns-2
-    plan-blocks-requires
-    returns-3)
+    tie.close (tie.spec (λ c κs. search needs) (λ c κs. search needs) returns (λ c κs. search needs) returns-2
+    plan-blocks-requires returns-3)

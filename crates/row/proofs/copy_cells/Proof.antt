@@ -1,4 +1,5 @@
-use mathlib.Core.Path.{_≡_, refl}
+-- The cells before i are copied, and both slices have 132.
+use mathlib.Core.Path.{_≡_}
 use Prim.Native.Nat.{_≤_, _-_}
 use native.Mathlib.Omega.{arith}
 use lib.ListN.{length, take, length-set}
@@ -13,9 +14,6 @@ Inv-loop from into₀ i₀ into i = (i ≤ 132) × (length into ≡ 132) × (tak
 abbrev μ-loop : tie.MeasureT-loop
 μ-loop from into₀ i₀ into i = 132 - i
 
-loop-holds : tie.Need-loop-holds Inv-loop μ-loop
-loop-holds c = (omega arith, c .pre .1, refl)
-
 loop-again : tie.Need-loop-again Inv-loop μ-loop
 loop-again c =
     let l = c .before .before .loop in
@@ -28,17 +26,5 @@ returns c =
 
 pub copy-cells-spec : {M : Type 1} → statement M
 copy-cells-spec =
-    tie.close
-    (tie.spec
-    Inv-loop
-    μ-loop
-    loop-holds
-    (λ c. search needs)
-    (λ c. search needs)
-    (λ c. search needs)
-    (λ c. search needs)
-    (λ c. search needs)
-    (λ c. search needs)
-    loop-again
-    (λ c. search needs)
-    returns)
+    tie.close (tie.spec Inv-loop μ-loop (λ c. search needs) (λ c. search needs) (λ c. search needs) (λ c. search needs)
+    (λ c. search needs) (λ c. search needs) (λ c. search needs) loop-again (λ c. search needs) returns)

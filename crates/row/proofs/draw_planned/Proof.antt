@@ -22,49 +22,50 @@ code-settings-requires c κs = plan-passing _ _ _ (c .before .before .before .be
 
 draw-cells-requires : tie.Need-draw-cells-requires
 draw-cells-requires c κs =
-    let a = c .before .before .before .before .before .before .before .before .before .before .before .args in
-    let k = plan-drawable (a .settings) (a .mem .now) (λ i. c .before .before .before .before .before .before .before .before .before .before .shared-slice-known .given i .fits) (a .state .fields) (c .before .before .before .before .before .before .before .before .before .before .before .pre .1) in
-    rw (c .before .before .before .before .before .code-settings .ensures) (k .0, (k .1, search needs))
+    let at-code-settings = c .before .before .before .before .before in
+    let known = at-code-settings .before .before .before .before .before in
+    let start = known .before in
+    let a = start .args in
+    let k = plan-drawable (a .settings) (a .mem .now) (λ i. known .shared-slice-known .given i .fits) (a .state .fields) (start .pre .1) in
+    rw (at-code-settings .code-settings .ensures) (k .0, (k .1, search needs))
 
 returns : tie.Need-returns
 returns c =
-    let a = c .before .before .before .before .before .before .before .before .before .before .before .before .before .before .before .before .before .before .before .before .before .before .before .args in (
+    let at-copy-cells2 = c .before .before .before in
+    let refused = at-copy-cells2 .before .before .before .before in
+    let at-draw-cells = refused .before .before .before .before in
+    let at-copy-cells = at-draw-cells .before .before .before in
+    let at-code-settings = at-copy-cells .before .before .before in
+    let start = at-code-settings .before .before .before .before .before .before in
+    let a = start .args in (
       lit< tt,
       rw (c .refusal-of .ensures)
-          (ap (called (Refused (refusal (a .state .fields .row) (c .before .before .before .before .before .before .before .fault .given .0 .0)))) (c .before .before .before .copy-cells2 .ensures ∙ c .before .before .before .before .before .before .before .before .before .before .before .before .before .before .copy-cells .ensures)
-          ∙ ap (answered (a .settings) (a .state .fields) (a .buffer .now)) (planned-refused (a .settings) (a .mem .now) (a .state) (c .before .before .before .before .before .before .before .before .before .before .before .before .before .before .before .before .before .before .before .before .before .before .before .pre .1) (finish-refused _ (rw (c .before .before .before .before .before .before .before .fault .given .1, c .before .before .before .before .before .before .before .before .before .before .before .before .before .before .before .before .before .code-settings .ensures) at (c .before .before .before .before .before .before .before .before .before .before .before .draw-cells .ensures))))),
+          (ap (called (Refused (refusal (a .state .fields .row) (refused .fault .given .0 .0)))) (at-copy-cells2 .copy-cells2 .ensures ∙ at-copy-cells .copy-cells .ensures)
+          ∙ ap (answered (a .settings) (a .state .fields) (a .buffer .now)) (planned-refused (a .settings) (a .mem .now) (a .state) (start .pre .1) (finish-refused _ (rw (refused .fault .given .1, at-code-settings .code-settings .ensures) at (at-draw-cells .draw-cells .ensures))))),
     )
 
 returns-2 : tie.Need-returns-2
 returns-2 c =
-    let a = c .before .before .before .before .before .before .before .before .before .before .before .before .before .before .before .before .before .before .before .before .before .before .args in
-    let g = finish-given _ (rw (c .before .before .before .before .before .before .latch .given .1, c .before .before .before .before .before .before .before .before .before .before .before .before .before .before .before .before .code-settings .ensures) at (c .before .before .before .before .before .before .before .before .before .before .draw-cells .ensures)) in
-    let e = planned-drawn (a .settings) (a .mem .now) (a .state) (c .before .before .before .before .before .before .before .before .before .before .before .before .before .before .before .before .before .before .before .before .before .before .pre .1) (g .is) in
-    let k = row-bound (a .settings) (a .mem .now) (λ i. c .before .before .before .before .before .before .before .before .before .before .before .before .before .before .before .before .before .before .before .before .before .shared-slice-known .given i .fits) (a .state) _ _ (sym e) in
+    let at-mark-cursor = c .before .before .before in
+    let drawn = at-mark-cursor .before .before .before in
+    let at-draw-cells = drawn .before .before .before .before in
+    let at-code-settings = at-draw-cells .before .before .before .before .before .before in
+    let known = at-code-settings .before .before .before .before .before in
+    let start = known .before in
+    let a = start .args in
+    let g = finish-given _ (rw (drawn .latch .given .1, at-code-settings .code-settings .ensures) at (at-draw-cells .draw-cells .ensures)) in
+    let e = planned-drawn (a .settings) (a .mem .now) (a .state) (start .pre .1) (g .is) in
+    let k = row-bound (a .settings) (a .mem .now) (λ i. known .shared-slice-known .given i .fits) (a .state) _ _ (sym e) in
     rw (c .row-answer .ensures) (
       k .0,
-      ap₂ (λ (latch : ℕ) (cs : List ℕ). called (answerOf (a .state .fields .row) (a .p .lines) (a .p .format) (c .before .before .before .before .before .before .latch .given .0 .1 .1 .0) (stateOf latch (a .p .next))) cs)
+      ap₂ (λ (latch : ℕ) (cs : List ℕ). called (answerOf (a .state .fields .row) (a .p .lines) (a .p .format) (drawn .latch .given .0 .1 .1 .0) (stateOf latch (a .p .next))) cs)
           (ap (λ (f : Finished). f .latch) (g .same))
-          (c .before .before .before .mark-cursor .ensures ∙ ap (λ (f : Finished). withCursor (a .settings) (a .state .fields) (f .cells)) (g .same))
+          (at-mark-cursor .mark-cursor .ensures ∙ ap (λ (f : Finished). withCursor (a .settings) (a .state .fields) (f .cells)) (g .same))
           ∙ ap (answered (a .settings) (a .state .fields) (a .buffer .now)) e,
     )
 
 pub draw-planned-spec : {M : Type 1} → statement M
 draw-planned-spec =
-    tie.close
-    (tie.spec
-    code-settings-requires
-    (λ c. search needs)
-    (λ c κs. search needs)
-    draw-cells-requires
-    (λ c. search needs)
-    (λ c. search needs)
-    (λ c κs. search needs)
-    (λ c κs. search needs)
-    (λ c. search needs)
-    (λ c κs. search needs)
-    (λ c κs. search needs)
-    (λ c. search needs)
-    returns
-    (λ c. search needs)
-    returns-2)
+    tie.close (tie.spec code-settings-requires (λ c. search needs) (λ c κs. search needs) draw-cells-requires
+    (λ c. search needs) (λ c. search needs) (λ c κs. search needs) (λ c κs. search needs) (λ c. search needs)
+    (λ c κs. search needs) (λ c κs. search needs) (λ c. search needs) returns (λ c. search needs) returns-2)

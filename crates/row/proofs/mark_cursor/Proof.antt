@@ -15,7 +15,7 @@ slice-read-cells c =
     let a = c .before .before .before .before .before .args in
     let f = a .fields in
     let h = rw (c .before .before .is-cursor-row .ensures) at (c .before .if1 .taken) in
-    omega (arith, c .before .before .before .before .before .pre, ltb-true (f .cursor .x) 132 (both (a .settings .cursor && eqb (f .cursor .y) (f .row)) (ltb (f .cursor .x) 132) h .1))
+    omega (arith, ltb-true (f .cursor .x) 132 (both (a .settings .cursor && eqb (f .cursor .y) (f .row)) (ltb (f .cursor .x) 132) h .1))
 
 slice-write-cells : tie.Need-slice-write-cells
 slice-write-cells c =
@@ -42,14 +42,5 @@ returns-2 c =
 
 pub mark-cursor-spec : {M : Type 1} → statement M
 mark-cursor-spec =
-    tie.close
-    (tie.spec
-    (λ c. search needs)
-    (λ c κs. search needs)
-    (λ c. search needs)
-    slice-read-cells
-    (λ c. search needs)
-    slice-write-cells
-    (λ c. search needs)
-    returns
-    returns-2)
+    tie.close (tie.spec (λ c. search needs) (λ c κs. search needs) (λ c. search needs) slice-read-cells
+    (λ c. search needs) slice-write-cells (λ c. search needs) returns returns-2)

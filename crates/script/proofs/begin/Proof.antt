@@ -9,8 +9,4 @@ unfolding beginning
 returns c = rw (c .no-settings .ensures)
 
 pub begin-spec : {M : Type 1} → statement M
-begin-spec =
-    tie.close
-    (tie.spec
-    (λ c κs. search needs)
-    returns)
+begin-spec = tie.close (tie.spec (λ c κs. search needs) returns)

@@ -23,11 +23,4 @@ returns-3 c =
     rw (ne-eqb kind 0 (c .before .if1 .left), lt-leb kind 3 (c .if2 .left))
 
 pub begin-record-spec : {M : Type 1} → statement M
-begin-record-spec =
-    tie.close
-    (tie.spec
-    returns
-    (λ c κs. search needs)
-    (λ c κs. search needs)
-    returns-2
-    returns-3)
+begin-record-spec = tie.close (tie.spec returns (λ c κs. search needs) (λ c κs. search needs) returns-2 returns-3)

@@ -1,9 +1,8 @@
 -- What the bytes come to is what those from i on come to from where the script stands: a byte more is one step of that.
 use mathlib.Core.Path.{_≡_, refl, sym, _∙_}
 use Prim.Native.Nat.{_-_}
-use native.Mathlib.Omega.{arith}
 use lib.ListN.{length, drop, drop-of-length-le}
-use Rattle.script.specs.Feeding.{onward, feeding}
+use Rattle.script.specs.Feeding.{feeding}
 use Rattle.script.proofs.FeedLaws.{feed-next}
 use borrow.Author.Needs.{needs}
 use Rattle.script.proofs.feed.Statement.{statement}
@@ -14,9 +13,6 @@ Inv-loop bytes mem₀ s₀ i₀ mem s i = feeding bytes s₀ mem₀ ≡ feeding 
 
 abbrev μ-loop : tie.MeasureT-loop
 μ-loop bytes mem₀ s₀ i₀ mem s i = length bytes - i
-
-loop-holds : tie.Need-loop-holds Inv-loop μ-loop
-loop-holds c = refl
 
 returns : tie.Need-returns Inv-loop μ-loop
 returns c = sym (c .before .before .before .before .before .before .before .loop .inv ∙ feed-next _ _ _ _ (c .before .before .before .before .before .before .loop-test .taken) ∙ rw (← c .before .before .before .read-byte .ensures, c .before .settings .given .1))
@@ -34,19 +30,6 @@ returns-3 c = sym (c .before .loop .inv ∙ rw (drop-of-length-le _ (c .loop-tes
 
 pub feed-spec : {M : Type 1} → statement M
 feed-spec =
-    tie.close
-    (tie.spec
-    Inv-loop
-    μ-loop
-    loop-holds
-    (λ c. search needs)
-    (λ c κs. search needs)
-    (λ c. search needs)
-    (λ c. search needs)
-    returns
-    (λ c. search needs)
-    returns-2
-    (λ c. search needs)
-    (λ c. search needs)
-    loop-again
+    tie.close (tie.spec Inv-loop μ-loop (λ c. refl) (λ c. search needs) (λ c κs. search needs) (λ c. search needs)
+    (λ c. search needs) returns (λ c. search needs) returns-2 (λ c. search needs) (λ c. search needs) loop-again
     returns-3)

@@ -9,7 +9,4 @@ unfolding unset
 returns c = refl
 
 pub no-settings-spec : {M : Type 1} → statement M
-no-settings-spec =
-    tie.close
-    (tie.spec
-    returns)
+no-settings-spec = tie.close (tie.spec returns)

@@ -21,11 +21,5 @@ returns-3 c = rw (c .before .before .take .ensures, ne-eqb _ 0 (c .before .befor
 
 pub read-byte-spec : {M : Type 1} → statement M
 read-byte-spec =
-    tie.close
-    (tie.spec
-    (λ c κs. search needs)
-    returns
-    (λ c κs. search needs)
-    (λ c κs. search needs)
-    returns-2
+    tie.close (tie.spec (λ c κs. search needs) returns (λ c κs. search needs) (λ c κs. search needs) returns-2
     returns-3)

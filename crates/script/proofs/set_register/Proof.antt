@@ -7,14 +7,15 @@ use Rattle.script.proofs.set_register.Tie as tie
 returns : tie.Need-returns
 unfolding registered
 returns c =
+    let seventh = c .before .before .before .before .before .before in
     rw (
-      c .before .before .before .before .before .before .before .before .before .before .before .before .pick .ensures,
-      c .before .before .before .before .before .before .before .before .before .before .before .pick2 .ensures,
-      c .before .before .before .before .before .before .before .before .before .before .pick3 .ensures,
-      c .before .before .before .before .before .before .before .before .before .pick4 .ensures,
-      c .before .before .before .before .before .before .before .before .pick5 .ensures,
-      c .before .before .before .before .before .before .before .pick6 .ensures,
-      c .before .before .before .before .before .before .pick7 .ensures,
+      seventh .before .before .before .before .before .before .pick .ensures,
+      seventh .before .before .before .before .before .pick2 .ensures,
+      seventh .before .before .before .before .pick3 .ensures,
+      seventh .before .before .before .pick4 .ensures,
+      seventh .before .before .pick5 .ensures,
+      seventh .before .pick6 .ensures,
+      seventh .pick7 .ensures,
       c .before .before .before .before .before .pick8 .ensures,
       c .before .before .before .before .pick9 .ensures,
       c .before .before .before .pick10 .ensures,
@@ -25,19 +26,6 @@ returns c =
 
 pub set-register-spec : {M : Type 1} → statement M
 set-register-spec =
-    tie.close
-    (tie.spec
-    (λ c κs. search needs)
-    (λ c κs. search needs)
-    (λ c κs. search needs)
-    (λ c κs. search needs)
-    (λ c κs. search needs)
-    (λ c κs. search needs)
-    (λ c κs. search needs)
-    (λ c κs. search needs)
-    (λ c κs. search needs)
-    (λ c κs. search needs)
-    (λ c κs. search needs)
-    (λ c κs. search needs)
-    (λ c κs. search needs)
-    returns)
+    tie.close (tie.spec (λ c κs. search needs) (λ c κs. search needs) (λ c κs. search needs) (λ c κs. search needs)
+    (λ c κs. search needs) (λ c κs. search needs) (λ c κs. search needs) (λ c κs. search needs) (λ c κs. search needs)
+    (λ c κs. search needs) (λ c κs. search needs) (λ c κs. search needs) (λ c κs. search needs) returns)

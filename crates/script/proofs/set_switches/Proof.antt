@@ -10,9 +10,4 @@ unfolding switched
 returns c = rw (c .before .before .interlace-of .ensures, div-one)
 
 pub set-switches-spec : {M : Type 1} → statement M
-set-switches-spec =
-    tie.close
-    (tie.spec
-    (λ c. search needs)
-    (λ c κs. search needs)
-    returns)
+set-switches-spec = tie.close (tie.spec (λ c. search needs) (λ c κs. search needs) returns)

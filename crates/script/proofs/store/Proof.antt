@@ -9,7 +9,7 @@ use Rattle.script.proofs.store.Tie as tie
 
 returns : tie.Need-returns
 unfolding memoryAfter
-returns c = sym (kind-2 (c .before .before .args .kind) _ _ _ (c .before .if1 .taken))
+returns c = sym (kind-2 _ _ _ _ (c .before .if1 .taken))
 
 returns-2 : tie.Need-returns-2
 unfolding memoryAfter
@@ -17,16 +17,9 @@ returns-2 c = sym (kind-2 (c .before .before .args .kind) _ _ _ (c .before .if1 
 
 returns-3 : tie.Need-returns-3
 unfolding memoryAfter
-returns-3 c = sym (kind-other (c .before .args .kind) _ _ (c .if1 .left))
+returns-3 c = sym (kind-other _ _ _ (c .if1 .left))
 
 pub store-spec : {M : Type 1} → statement M
 store-spec =
-    tie.close
-    (tie.spec
-    (λ c. search needs)
-    (λ c. search needs)
-    (λ c. search needs)
-    (λ c. search needs)
-    returns
-    returns-2
-    returns-3)
+    tie.close (tie.spec (λ c. search needs) (λ c. search needs) (λ c. search needs) (λ c. search needs) returns
+    returns-2 returns-3)

@@ -12,11 +12,5 @@ returns-2 c = signed _ (c .if1 .left) (c .before .fits .bits .fits)
 
 pub signed-of-spec : {M : Type 1} → statement M
 signed-of-spec =
-    tie.close
-    (tie.spec
-    (λ c. search needs)
-    (λ c. search needs)
-    (λ c. search needs)
-    sub-result-2
-    (λ c. search needs)
+    tie.close (tie.spec (λ c. search needs) (λ c. search needs) (λ c. search needs) sub-result-2 (λ c. search needs)
     returns-2)

@@ -1,7 +1,4 @@
 -- A script that draws has its frame's text; one that is refused, or whose input ends here, has the line with its offset.
-use mathlib.Core.Path.{_∙_, sym, ap}
-use Rattle.script.specs.Feeding.{outcome, stepped}
-use Rattle.text.specs.Text.{outcomeText}
 use Rattle.text.specs.ToCome.{toCome}
 use borrow.Author.Needs.{needs}
 use Rattle.text.proofs.begin.Statement.{statement}
@@ -20,13 +17,5 @@ returns-3 c = rw (c .before .before .script3 .given .1) (cc)
 
 pub begin-spec : {M : Type 1} → statement M
 begin-spec =
-    tie.close
-    (tie.spec
-    (λ c. search needs)
-    (λ c κs. search needs)
-    (λ c. search needs)
-    (λ c. search needs)
-    (λ c κs. search needs)
-    returns
-    returns-2
-    returns-3)
+    tie.close (tie.spec (λ c. search needs) (λ c κs. search needs) (λ c. search needs) (λ c. search needs)
+    (λ c κs. search needs) returns returns-2 returns-3)

@@ -1,5 +1,5 @@
 -- The answer of `frame::begin`, from latch 0: the text of the frame in progress, or of a refused start, is the frame's.
-use mathlib.Core.Path.{sym, _∙_}
+use mathlib.Core.Path.{sym}
 use Rattle.memory.proofs.ReadBounds.{Words}
 use Rattle.text.specs.ToCome.{toCome}
 use Rattle.text.proofs.TextLaws.{begun-text, refused-text}
@@ -21,11 +21,4 @@ returns-2 c =
     refused-text (a .settings) (a .mem .now) words 0 (sym (rw (c .before .refusal .given .1) at (c .before .before .before .begin .ensures)))
 
 pub begin-frame-spec : {M : Type 1} → statement M
-begin-frame-spec =
-    tie.close
-    (tie.spec
-    (λ c κs. search needs)
-    (λ c. search needs)
-    (λ c. search needs)
-    returns
-    returns-2)
+begin-frame-spec = tie.close (tie.spec (λ c κs. search needs) (λ c. search needs) (λ c. search needs) returns returns-2)

@@ -1,8 +1,8 @@
 -- Each case of the text has its lines.
-use mathlib.Core.Path.{_≡_, refl}
+use mathlib.Core.Path.{refl}
 use native.Mathlib.Omega.{arith}
-use Rattle.text.specs.declared.Text.the-variants.{Rows, Refused, NoScript}
-use Rattle.text.specs.ToCome.{toCome, Next}
+use Rattle.text.specs.declared.Text.the-variants.{Refused, NoScript}
+use Rattle.text.specs.ToCome.{toCome}
 use Rattle.text.proofs.TextLaws.{last-line}
 use borrow.Author.Needs.{needs}
 use Rattle.text.proofs.next.Statement.{statement}
@@ -25,20 +25,9 @@ returns-3 c =
 
 returns-4 : tie.Need-returns-4
 unfolding toCome
-returns-4 c = rw (c .enum-told .given .1)
+returns-4 c = search needs
 
 pub next-spec : {M : Type 1} → statement M
 next-spec =
-    tie.close
-    (tie.spec
-    (λ c. search needs)
-    (λ c κs. search needs)
-    (λ c. search needs)
-    (λ c κs. search needs)
-    (λ c. search needs)
-    (λ c κs. search needs)
-    (λ c. search needs)
-    returns
-    returns-2
-    returns-3
-    returns-4)
+    tie.close (tie.spec (λ c. search needs) (λ c κs. search needs) (λ c. search needs) (λ c κs. search needs)
+    (λ c. search needs) (λ c κs. search needs) (λ c. search needs) returns returns-2 returns-3 returns-4)

@@ -12,7 +12,10 @@ returns c = rw (ne-eqb _ _ (c .if1 .taken))
 returns-2 : tie.Need-returns-2
 unfolding hostLatch
 returns-2 c =
-    rw (eq-eqb _ _ (c .before .before .before .before .before .before .before .before .before .if1 .left), ← c .before .before .before .before .before .before .before .before .state-in .ensures, c .before .before .before .before .before .before .s .given .1, c .before .before .write-number .ensures, c .before .before .before .before .handed-on .ensures .0)
+    let at-write-number = c .before .before in let at-handed-on = at-write-number .before .before in
+    let at-s = at-handed-on .before .before in let at-state-in = at-s .before .before in
+    let at-if1 = at-state-in .before in
+    rw (eq-eqb _ _ (at-if1 .if1 .left), ← at-state-in .state-in .ensures, at-s .s .given .1, at-write-number .write-number .ensures, at-handed-on .handed-on .ensures .0)
 
 returns-3 : tie.Need-returns-3
 unfolding hostLatch
@@ -20,15 +23,5 @@ returns-3 c = rw (eq-eqb _ _ (c .before .before .before .if1 .left), ← c .befo
 
 pub thagaduvin-latch-spec : {M : Type 1} → statement M
 thagaduvin-latch-spec =
-    tie.close
-    (tie.spec
-    returns
-    (λ c κs. search needs)
-    (λ c. search needs)
-    (λ c κs. search needs)
-    (λ c. search needs)
-    (λ c κs. search needs)
-    (λ c. search needs)
-    (λ c. search needs)
-    returns-2
-    returns-3)
+    tie.close (tie.spec returns (λ c κs. search needs) (λ c. search needs) (λ c κs. search needs) (λ c. search needs)
+    (λ c κs. search needs) (λ c. search needs) (λ c. search needs) returns-2 returns-3)

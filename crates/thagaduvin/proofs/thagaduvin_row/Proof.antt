@@ -10,7 +10,9 @@ use Rattle.thagaduvin.proofs.thagaduvin_row.Tie as tie
 
 next-row-requires : tie.Need-next-row-requires
 next-row-requires c κs =
-    (state-size _ _ (sym (c .before .before .before .before .before .before .before .state-in .ensures) ∙ c .before .before .before .before .before .t .given .1), c .before .before .before .before .before .before .before .before .before .before .before .before .before .if1 .left)
+    let at-t = c .before .before .before .before .before in let at-state-in = at-t .before .before in
+    let at-if1 = at-state-in .before .before .before .before .before .before in
+    (state-size _ _ (sym (at-state-in .state-in .ensures) ∙ at-t .t .given .1), at-if1 .if1 .left)
 
 returns : tie.Need-returns
 unfolding hostRow
@@ -19,23 +21,29 @@ returns c = rw (ne-eqb _ _ (c .if1 .taken))
 returns-2 : tie.Need-returns-2
 unfolding hostRow
 returns-2 c =
+    let at-next-row = c .before .before .before .before .before .before .before .before in
+    let at-t = at-next-row .before .before .before .before .before .before in let at-state-in = at-t .before .before in
+    let at-s = at-state-in .before .before .before in let at-settings-in = at-s .before .before in
+    let at-if1 = at-settings-in .before in
     rw (
-      eq-eqb _ _ (c .before .before .before .before .before .before .before .before .before .before .before .before .before .before .before .before .before .before .before .before .before .before .if1 .left),
-      ← c .before .before .before .before .before .before .before .before .before .before .before .before .before .before .before .before .before .before .before .before .before .settings-in .ensures,
-      c .before .before .before .before .before .before .before .before .before .before .before .before .before .before .before .before .before .before .before .s .given .1,
-      ← c .before .before .before .before .before .before .before .before .before .before .before .before .before .before .before .before .state-in .ensures,
-      c .before .before .before .before .before .before .before .before .before .before .before .before .before .before .t .given .1,
+      eq-eqb _ _ (at-if1 .if1 .left),
+      ← at-settings-in .settings-in .ensures,
+      at-s .s .given .1,
+      ← at-state-in .state-in .ensures,
+      at-t .t .given .1,
     )
-    (c .before .before .before .before .before .before .before .before .next-row .ensures)
+    (at-next-row .next-row .ensures)
 
 returns-3 : tie.Need-returns-3
 unfolding hostRow
 returns-3 c =
+    let at-state-in = c .before .before in let at-s = at-state-in .before .before .before in
+    let at-settings-in = at-s .before .before in let at-if1 = at-settings-in .before in
     rw (
-      eq-eqb _ _ (c .before .before .before .before .before .before .before .before .if1 .left),
-      ← c .before .before .before .before .before .before .before .settings-in .ensures,
-      c .before .before .before .before .before .s .given .1,
-      ← c .before .before .state-in .ensures,
+      eq-eqb _ _ (at-if1 .if1 .left),
+      ← at-settings-in .settings-in .ensures,
+      at-s .s .given .1,
+      ← at-state-in .state-in .ensures,
       c .enum-told .given .1,
     )
 
@@ -45,21 +53,6 @@ returns-4 c = rw (eq-eqb _ _ (c .before .before .before .if1 .left), ← c .befo
 
 pub thagaduvin-row-spec : {M : Type 1} → statement M
 thagaduvin-row-spec =
-    tie.close
-    (tie.spec
-    returns
-    (λ c κs. search needs)
-    (λ c. search needs)
-    (λ c κs. search needs)
-    (λ c. search needs)
-    next-row-requires
-    (λ c. search needs)
-    (λ c. search needs)
-    (λ c. search needs)
-    (λ c. search needs)
-    (λ c. search needs)
-    (λ c. search needs)
-    returns-2
-    (λ c. search needs)
-    returns-3
-    returns-4)
+    tie.close (tie.spec returns (λ c κs. search needs) (λ c. search needs) (λ c κs. search needs) (λ c. search needs)
+    next-row-requires (λ c. search needs) (λ c. search needs) (λ c. search needs) (λ c. search needs)
+    (λ c. search needs) (λ c. search needs) returns-2 (λ c. search needs) returns-3 returns-4)

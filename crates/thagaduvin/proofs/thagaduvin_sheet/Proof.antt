@@ -1,5 +1,4 @@
 -- Each test of the code is one of `hostSheet`'s: the answer's length, then whether the settings fit; `sheet` gives the rest.
-use mathlib.Core.Path.{_∙_}
 use borrow.Author.Tests.{eq-eqb, ne-eqb}
 use Rattle.thagaduvin.specs.Calls.{hostSheet}
 use borrow.Author.Needs.{needs}
@@ -12,7 +11,10 @@ returns c = rw (ne-eqb _ _ (c .if1 .taken))
 
 returns-2 : tie.Need-returns-2
 unfolding hostSheet
-returns-2 c = rw (eq-eqb _ _ (c .before .before .before .before .before .before .before .before .if1 .left), ← c .before .before .before .before .before .before .before .settings-in .ensures, c .before .before .before .before .before .s .given .1) (c .before .before .sheet .ensures)
+returns-2 c =
+    let at-sheet = c .before .before in let at-s = at-sheet .before .before .before in
+    let at-settings-in = at-s .before .before in let at-if1 = at-settings-in .before in
+    rw (eq-eqb _ _ (at-if1 .if1 .left), ← at-settings-in .settings-in .ensures, at-s .s .given .1) (at-sheet .sheet .ensures)
 
 returns-3 : tie.Need-returns-3
 unfolding hostSheet
@@ -20,13 +22,5 @@ returns-3 c = rw (eq-eqb _ _ (c .before .before .before .if1 .left), ← c .befo
 
 pub thagaduvin-sheet-spec : {M : Type 1} → statement M
 thagaduvin-sheet-spec =
-    tie.close
-    (tie.spec
-    returns
-    (λ c κs. search needs)
-    (λ c. search needs)
-    (λ c κs. search needs)
-    (λ c. search needs)
-    (λ c. search needs)
-    returns-2
-    returns-3)
+    tie.close (tie.spec returns (λ c κs. search needs) (λ c. search needs) (λ c κs. search needs) (λ c. search needs)
+    (λ c. search needs) returns-2 returns-3)

@@ -16,8 +16,11 @@ returns-2 c = rw (eq-eqb _ _ (c .before .if1 .left), ne-eqb _ _ (c .if2 .taken))
 returns-3 : tie.Need-returns-3
 unfolding hostStart
 returns-3 c =
-    rw (eq-eqb _ _ (c .before .before .before .before .before .before .before .before .before .before .before .before .before .before .before .if1 .left), eq-eqb _ _ (c .before .before .before .before .before .before .before .before .before .before .before .before .before .before .if2 .left), ← c .before .before .before .before .before .before .before .before .before .before .before .before .before .settings-in .ensures, c .before .before .before .before .before .before .before .before .before .before .before .s .given .1)
-    (c .before .before .before .before .before .before .start .ensures)
+    let at-start = c .before .before .before .before .before .before in
+    let at-s = at-start .before .before .before .before .before in let at-settings-in = at-s .before .before in
+    let at-if2 = at-settings-in .before in let at-if1 = at-if2 .before in
+    rw (eq-eqb _ _ (at-if1 .if1 .left), eq-eqb _ _ (at-if2 .if2 .left), ← at-settings-in .settings-in .ensures, at-s .s .given .1)
+    (at-start .start .ensures)
 
 returns-4 : tie.Need-returns-4
 unfolding hostStart
@@ -26,16 +29,5 @@ returns-4 c =
 
 pub thagaduvin-start-spec : {M : Type 1} → statement M
 thagaduvin-start-spec =
-    tie.close
-    (tie.spec
-    returns
-    returns-2
-    (λ c κs. search needs)
-    (λ c. search needs)
-    (λ c κs. search needs)
-    (λ c. search needs)
-    (λ c. search needs)
-    (λ c. search needs)
-    (λ c. search needs)
-    returns-3
-    returns-4)
+    tie.close (tie.spec returns returns-2 (λ c κs. search needs) (λ c. search needs) (λ c κs. search needs)
+    (λ c. search needs) (λ c. search needs) (λ c. search needs) (λ c. search needs) returns-3 returns-4)

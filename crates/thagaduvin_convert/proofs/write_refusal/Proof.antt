@@ -6,13 +6,7 @@ use Rattle.thagaduvin_convert.proofs.write_refusal.Tie as tie
 
 returns : tie.Need-returns
 unfolding refusalNumbers
-returns c = c .before .before .write .ensures
+returns c = search needs
 
 pub write-refusal-spec : {M : Type 1} → statement M
-write-refusal-spec =
-    tie.close
-    (tie.spec
-    (λ c. search needs)
-    (λ c κs. search needs)
-    (λ c. search needs)
-    returns)
+write-refusal-spec = tie.close (tie.spec (λ c. search needs) (λ c κs. search needs) (λ c. search needs) returns)

@@ -1,6 +1,5 @@
 -- The step's answer decides which line of `byAnswer` it is.
-use mathlib.Core.Path.{ap, sym, _∙_}
-use Rattle.mending.specs.Mending.{Stepped}
+use mathlib.Core.Path.{ap}
 use Rattle.thagaduvin_mend.specs.MendCalls.{afterStep}
 use borrow.Author.Needs.{needs}
 use Rattle.thagaduvin_mend.proofs.mend_into.Statement.{statement}
@@ -8,39 +7,29 @@ use Rattle.thagaduvin_mend.proofs.mend_into.Tie as tie
 
 returns : tie.Need-returns
 returns c =
-    let e = rw (c .before .before .before .before .before .enum-told .given .1) at (c .before .before .before .before .before .before .before .before .before .mend-step .ensures .0) in
-    rw (c .before .before .write .ensures) (ap (afterStep _ _) e)
+    let at-write = c .before .before in let at-enum-told = at-write .before .before .before in
+    let at-mend-step = at-enum-told .before .before .before .before in
+    let e = rw (at-enum-told .enum-told .given .1) at (at-mend-step .mend-step .ensures .0) in
+    rw (at-write .write .ensures) (ap (afterStep _ _) e)
 
 returns-2 : tie.Need-returns-2
 returns-2 c =
-    let e = rw (c .before .before .before .before .before .r .given .1) at (c .before .before .before .before .before .before .before .before .before .mend-step .ensures .0) in
-    rw (c .before .before .refuse .ensures .0, c .before .before .refuse .ensures .1) (ap (afterStep _ _) e)
+    let at-refuse = c .before .before in let at-r = at-refuse .before .before .before in
+    let at-mend-step = at-r .before .before .before .before in
+    let e = rw (at-r .r .given .1) at (at-mend-step .mend-step .ensures .0) in
+    rw (at-refuse .refuse .ensures .0, at-refuse .refuse .ensures .1) (ap (afterStep _ _) e)
 
 returns-3 : tie.Need-returns-3
 returns-3 c =
-    let e = rw (c .before .before .before .before .before .before .before .before .before .change .given .1) at (c .before .before .before .before .before .before .before .before .before .before .before .before .before .mend-step .ensures .0) in
-    rw (c .before .before .write-change .ensures, c .before .before .before .before .before .before .clear-tow .ensures) (ap (afterStep _ _) e)
+    let at-write-change = c .before .before in let at-clear-tow = at-write-change .before .before .before .before in
+    let at-change = at-clear-tow .before .before .before in
+    let at-mend-step = at-change .before .before .before .before in
+    let e = rw (at-change .change .given .1) at (at-mend-step .mend-step .ensures .0) in
+    rw (at-write-change .write-change .ensures, at-clear-tow .clear-tow .ensures) (ap (afterStep _ _) e)
 
 pub mend-into-spec : {M : Type 1} → statement M
 mend-into-spec =
-    tie.close
-    (tie.spec
-    (λ c κs. search needs)
-    (λ c. search needs)
-    (λ c. search needs)
-    (λ c κs. search needs)
-    (λ c. search needs)
-    (λ c κs. search needs)
-    (λ c. search needs)
-    (λ c κs. search needs)
-    (λ c κs. search needs)
-    (λ c. search needs)
-    (λ c. search needs)
-    returns
-    (λ c. search needs)
-    (λ c. search needs)
-    returns-2
-    (λ c. search needs)
-    (λ c. search needs)
-    (λ c. search needs)
-    returns-3)
+    tie.close (tie.spec (λ c κs. search needs) (λ c. search needs) (λ c. search needs) (λ c κs. search needs)
+    (λ c. search needs) (λ c κs. search needs) (λ c. search needs) (λ c κs. search needs) (λ c κs. search needs)
+    (λ c. search needs) (λ c. search needs) returns (λ c. search needs) (λ c. search needs) returns-2
+    (λ c. search needs) (λ c. search needs) (λ c. search needs) returns-3)

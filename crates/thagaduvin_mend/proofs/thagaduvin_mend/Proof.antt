@@ -11,12 +11,18 @@ unfolding hostMend
 returns c = rw (ne-eqb _ _ (c .if1 .taken))
 
 mend-into-requires : tie.Need-mend-into-requires
-mend-into-requires c κs = (fit-length _ (rw (c .before .before .before .before .s .given .1) at (c .before .before .before .before .before .before .settings-in .ensures)), c .before .before .before .before .before .before .before .before .if1 .left)
+mend-into-requires c κs =
+    let at-s = c .before .before .before .before in let at-settings-in = at-s .before .before in
+    let at-if1 = at-settings-in .before .before in
+    (fit-length _ (rw (at-s .s .given .1) at (at-settings-in .settings-in .ensures)), at-if1 .if1 .left)
 
 returns-2 : tie.Need-returns-2
 unfolding hostMend
 returns-2 c =
-    rw (eq-eqb _ _ (c .before .before .before .before .before .before .before .before .before .before .before .before .before .before .before .if1 .left), ← c .before .before .before .before .before .before .before .before .before .before .before .before .before .settings-in .ensures, c .before .before .before .before .before .before .before .before .before .before .before .s .given .1) (c .before .before .before .before .before .before .mend-into .ensures)
+    let at-mend-into = c .before .before .before .before .before .before in
+    let at-s = at-mend-into .before .before .before .before .before in let at-settings-in = at-s .before .before in
+    let at-if1 = at-settings-in .before .before in
+    rw (eq-eqb _ _ (at-if1 .if1 .left), ← at-settings-in .settings-in .ensures, at-s .s .given .1) (at-mend-into .mend-into .ensures)
 
 returns-3 : tie.Need-returns-3
 unfolding hostMend
@@ -24,16 +30,5 @@ returns-3 c = rw (eq-eqb _ _ (c .before .before .before .before .if1 .left), ←
 
 pub thagaduvin-mend-spec : {M : Type 1} → statement M
 thagaduvin-mend-spec =
-    tie.close
-    (tie.spec
-    returns
-    (λ c κs. search needs)
-    (λ c. search needs)
-    mend-into-requires
-    (λ c. search needs)
-    (λ c. search needs)
-    (λ c. search needs)
-    (λ c. search needs)
-    returns-2
-    (λ c. search needs)
-    returns-3)
+    tie.close (tie.spec returns (λ c κs. search needs) (λ c. search needs) mend-into-requires (λ c. search needs)
+    (λ c. search needs) (λ c. search needs) (λ c. search needs) returns-2 (λ c. search needs) returns-3)

@@ -9,7 +9,10 @@ use Rattle.windows.proofs.due_window.Statement.{statement}
 use Rattle.windows.proofs.due_window.Tie as tie
 
 window-at-requires : tie.Need-window-at-requires
-window-at-requires c κs = omega (arith, rw (c .before .before .before .before .before .before .in-hand .given .1) at (c .before .before .before .before .before .before .before .before .before .pre))
+window-at-requires c κs =
+    let present = c .before .before .before .before .before .before in
+    let start = present .before .before .before in
+    omega (arith, rw (present .in-hand .given .1) at (start .pre))
 
 returns : tie.Need-returns
 unfolding dueWindow
@@ -25,16 +28,5 @@ returns-3 c = rw (c .before .before .before .in-hand .given .1, le-ltb _ _ (c .i
 
 pub due-window-spec : {M : Type 1} → statement M
 due-window-spec =
-    tie.close
-    (tie.spec
-    (λ c. search needs)
-    (λ c. search needs)
-    (λ c. search needs)
-    (λ c. search needs)
-    (λ c. search needs)
-    (λ c. search needs)
-    (λ c. search needs)
-    window-at-requires
-    returns
-    returns-2
-    returns-3)
+    tie.close (tie.spec (λ c. search needs) (λ c. search needs) (λ c. search needs) (λ c. search needs)
+    (λ c. search needs) (λ c. search needs) (λ c. search needs) window-at-requires returns returns-2 returns-3)

@@ -1,3 +1,4 @@
+-- The first window is number 0, and any row may be its first.
 use native.Mathlib.Omega.{arith}
 use Rattle.windows.specs.Window.{firstWindow}
 use borrow.Author.Needs.{needs}
@@ -9,8 +10,4 @@ unfolding firstWindow
 returns c = c .window-at .ensures
 
 pub first-window-spec : {M : Type 1} → statement M
-first-window-spec =
-    tie.close
-    (tie.spec
-    (λ c κs. omega arith)
-    returns)
+first-window-spec = tie.close (tie.spec (λ c κs. omega arith) returns)

@@ -28,20 +28,32 @@ returns c = rw (eq-eqb _ 0 (c .if1 .taken)) (sym (run-done _ _ _))
 returns-2 : tie.Need-returns-2
 unfolding windowAt
 returns-2 c =
-    let r = c .before .before .before .before .before .before .before .before .before .read-words in
+    let at-window-of = c .before .before .before in
+    let at-low-byte = at-window-of .before .before in
+    let whole = at-low-byte .before in
+    let at-read-words = whole .before .before .before in
+    let linked = at-read-words .before .before in
+    let start = linked .before .before .before in
+    let r = at-read-words .read-words in
     let t = sym (c .before .may-follow .ensures) ∙ c .if2 .taken in
-    let number = byte _ _ (c .before .before .before .window-of .result .block) (c .before .before .before .before .before .before .before .before .before .before .before .before .before .before .pre) t (omega (arith, c .before .before .before .window-of .ok)) in
-    rw (ne-eqb _ 0 (c .before .before .before .before .before .before .before .before .before .before .before .if1 .left), c .before .before .before .window-of .ensures, c .before .before .before .before .before .low-byte .ensures, number)
-    (sym (step-given 0 _ _ _ (run-as _ _ _ _ ∙ read-whole _ _ 6 _ _ _ (r .ensures) (c .before .before .before .before .before .before .enum-told .given .1) (r .kept .1 .1 .1 .0))
-    ∙ check-of-passed _ _ _ _ _ _ (rw (c .before .before .before .window-of .ensures, c .before .before .before .before .before .low-byte .ensures, number) at t) ∙ run-done _ _ _))
+    let number = byte _ _ (at-window-of .window-of .result .block) (start .pre) t (omega (arith, at-window-of .window-of .ok)) in
+    rw (ne-eqb _ 0 (linked .if1 .left), at-window-of .window-of .ensures, at-low-byte .low-byte .ensures, number)
+    (sym (step-given 0 _ _ _ (run-as _ _ _ _ ∙ read-whole _ _ 6 _ _ _ (r .ensures) (whole .enum-told .given .1) (r .kept .1 .1 .1 .0))
+    ∙ check-of-passed _ _ _ _ _ _ (rw (at-window-of .window-of .ensures, at-low-byte .low-byte .ensures, number) at t) ∙ run-done _ _ _))
 
 returns-3 : tie.Need-returns-3
 unfolding windowAt windowOf
 returns-3 c =
-    let r = c .before .before .before .before .before .before .before .before .before .before .read-words in
-    rw (c .blame .ensures, ne-eqb _ 0 (c .before .before .before .before .before .before .before .before .before .before .before .before .if1 .left))
-    (sym (step-given 0 _ _ _ (run-as _ _ _ _ ∙ read-whole _ _ 6 _ _ _ (r .ensures) (c .before .before .before .before .before .before .before .enum-told .given .1) (r .kept .1 .1 .1 .0))
-    ∙ check-of-failed _ _ _ _ _ _ (sym (rw (c .before .before .before .before .window-of .ensures) at (c .before .before .may-follow .ensures)) ∙ c .before .if2 .left)))
+    let fails = c .before in
+    let at-may-follow = fails .before in
+    let at-window-of = at-may-follow .before .before in
+    let whole = at-window-of .before .before .before in
+    let at-read-words = whole .before .before .before in
+    let linked = at-read-words .before .before in
+    let r = at-read-words .read-words in
+    rw (c .blame .ensures, ne-eqb _ 0 (linked .if1 .left))
+    (sym (step-given 0 _ _ _ (run-as _ _ _ _ ∙ read-whole _ _ 6 _ _ _ (r .ensures) (whole .enum-told .given .1) (r .kept .1 .1 .1 .0))
+    ∙ check-of-failed _ _ _ _ _ _ (sym (rw (at-window-of .window-of .ensures) at (at-may-follow .may-follow .ensures)) ∙ fails .if2 .left)))
 
 returns-4 : tie.Need-returns-4
 unfolding windowAt
@@ -51,17 +63,6 @@ returns-4 c =
 
 pub window-at-spec : {M : Type 1} → statement M
 window-at-spec =
-    tie.close
-    (tie.spec
-    returns
-    (λ c. search needs)
-    (λ c κs. search needs)
-    (λ c. search needs)
-    (λ c κs. search needs)
-    (λ c κs. search needs)
-    (λ c κs. search needs)
-    (λ c κs. search needs)
-    (λ c. search needs)
-    returns-2
-    returns-3
+    tie.close (tie.spec returns (λ c. search needs) (λ c κs. search needs) (λ c. search needs) (λ c κs. search needs)
+    (λ c κs. search needs) (λ c κs. search needs) (λ c κs. search needs) (λ c. search needs) returns-2 returns-3
     returns-4)

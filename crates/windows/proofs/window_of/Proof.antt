@@ -7,25 +7,25 @@ use Rattle.windows.proofs.window_of.Tie as tie
 returns : tie.Need-returns
 unfolding windowOf
 returns c =
-    rw (c .pointer-of2 .ensures, c .before .before .before .words-ahead .ensures, c .before .before .before .before .pointer-of .ensures, c .before .before .before .before .before .before .before .low-byte2 .ensures, c .before .before .before .before .before .before .before .before .before .high-byte2 .ensures, c .before .before .before .before .before .before .before .before .before .before .before .low-byte .ensures, c .before .before .before .before .before .before .before .before .before .before .before .before .before .high-byte .ensures)
+    let at-words-ahead = c .before .before .before in
+    let link = at-words-ahead .before in
+    let right = link .before .before .before in
+    let left = right .before .before in
+    let bottom = left .before .before in
+    let top = bottom .before .before in
+    rw (
+      c .pointer-of2 .ensures,
+      at-words-ahead .words-ahead .ensures,
+      link .pointer-of .ensures,
+      right .low-byte2 .ensures,
+      left .high-byte2 .ensures,
+      bottom .low-byte .ensures,
+      top .high-byte .ensures,
+    )
 
 pub window-of-spec : {M : Type 1} → statement M
 window-of-spec =
-    tie.close
-    (tie.spec
-    (λ c. search needs)
-    (λ c κs. search needs)
-    (λ c. search needs)
-    (λ c κs. search needs)
-    (λ c. search needs)
-    (λ c κs. search needs)
-    (λ c. search needs)
-    (λ c κs. search needs)
-    (λ c. search needs)
-    (λ c. search needs)
-    (λ c κs. search needs)
-    (λ c κs. search needs)
-    (λ c. search needs)
-    (λ c. search needs)
-    (λ c κs. search needs)
-    returns)
+    tie.close (tie.spec (λ c. search needs) (λ c κs. search needs) (λ c. search needs) (λ c κs. search needs)
+    (λ c. search needs) (λ c κs. search needs) (λ c. search needs) (λ c κs. search needs) (λ c. search needs)
+    (λ c. search needs) (λ c κs. search needs) (λ c κs. search needs) (λ c. search needs) (λ c. search needs)
+    (λ c κs. search needs) returns)

@@ -9,9 +9,4 @@ unfolding invokes
 returns c = rw (c .low-byte .ensures, c .before .high-byte .ensures)
 
 pub invokes-spec : {M : Type 1} → statement M
-invokes-spec =
-    tie.close
-    (tie.spec
-    (λ c κs. search needs)
-    (λ c κs. search needs)
-    returns)
+invokes-spec = tie.close (tie.spec (λ c κs. search needs) (λ c κs. search needs) returns)

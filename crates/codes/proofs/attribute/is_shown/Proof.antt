@@ -7,8 +7,4 @@ returns : tie.Need-returns
 returns c = rw (c .bit-13 .ensures)
 
 pub is-shown-spec : {M : Type 1} → statement M
-is-shown-spec =
-    tie.close
-    (tie.spec
-    (λ c κs. search needs)
-    returns)
+is-shown-spec = tie.close (tie.spec (λ c κs. search needs) returns)

@@ -25,14 +25,5 @@ returns-2 c = (omega arith, character-out _ _ _ _ _ _ _ (rw (c .before .is-shown
 
 pub put-character-spec : {M : Type 1} → statement M
 put-character-spec =
-    tie.close
-    (tie.spec
-    (λ c κs. search needs)
-    (λ c κs. search needs)
-    (λ c. search needs)
-    slice-write-cells
-    (λ c. search needs)
-    (λ c κs. search needs)
-    (λ c. search needs)
-    returns
-    returns-2)
+    tie.close (tie.spec (λ c κs. search needs) (λ c κs. search needs) (λ c. search needs) slice-write-cells
+    (λ c. search needs) (λ c κs. search needs) (λ c. search needs) returns returns-2)

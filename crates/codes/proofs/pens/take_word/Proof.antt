@@ -14,10 +14,4 @@ unfolding taking
 returns-2 c = rw (sym (c .before .bit-15 .ensures) ∙ c .if1 .left, c .before .before .onward .ensures)
 
 pub take-word-spec : {M : Type 1} → statement M
-take-word-spec =
-    tie.close
-    (tie.spec
-    (λ c κs. search needs)
-    (λ c κs. search needs)
-    returns
-    returns-2)
+take-word-spec = tie.close (tie.spec (λ c κs. search needs) (λ c κs. search needs) returns returns-2)

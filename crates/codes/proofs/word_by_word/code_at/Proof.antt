@@ -10,14 +10,8 @@ returns c = rw (c .before .if1 .taken) (c .high-byte .ensures)
 
 returns-2 : tie.Need-returns-2
 returns-2 c =
-    let one : c .before .before .args .i ≡ 1 = omega (arith, c .before .if1 .left) in
+    let one : c .before .before .args .i ≡ 1 = omega arith in
     rw one (c .low-byte .ensures)
 
 pub code-at-spec : {M : Type 1} → statement M
-code-at-spec =
-    tie.close
-    (tie.spec
-    (λ c κs. search needs)
-    (λ c κs. search needs)
-    returns
-    returns-2)
+code-at-spec = tie.close (tie.spec (λ c κs. search needs) (λ c κs. search needs) returns returns-2)

@@ -32,28 +32,39 @@ loop-holds c = (omega arith, refl, c .before .before .pre .1, omega arith, rw su
 
 returns : tie.Need-returns Inv-loop μ-loop
 returns c =
-    let a = c .before .before .before .before .before .before .before .before .before .before .before .before .args in
-    let l = c .before .before .before .before .before .before .before .before .before .loop in (
-      ((rw (c .before .number .given .1) at (c .before .before .before .before .before .examine-code .ensures .0)) .0, omega arith),
+    let refused = c .before in
+    let at-examine-code = refused .before .before .before .before in
+    let at-code-at = at-examine-code .before .before in
+    let in-turn = at-code-at .before in
+    let at-loop = in-turn .before in
+    let start = at-loop .before .before .before in
+    let a = start .args in
+    let l = at-loop .loop in (
+      ((rw (refused .number .given .1) at (at-examine-code .examine-code .ensures .0)) .0, omega arith),
       sym (l .inv .4
           ∙ bytes-refused (l .read) (a .mem .now) (a .settings) (a .room .source) (a .room .end) (bytes (a .w)) (a .n) (l .i) (soFar (l .current) (l .cells))
-          (c .before .before .before .before .before .before .before .before .loop-test .taken) (c .before .before .before .before .before .before .before .before .before .before .before .before .pre .2) (sym (rw (c .before .number .given .1, c .before .before .before .before .before .before .before .code-at .ensures) at (c .before .before .before .before .before .examine-code .ensures .1)))),
+          (in-turn .loop-test .taken) (start .pre .2) (sym (rw (refused .number .given .1, at-code-at .code-at .ensures) at (at-examine-code .examine-code .ensures .1)))),
     )
 
 loop-again : tie.Need-loop-again Inv-loop μ-loop
 loop-again c =
-    let a = c .before .before .before .before .before .before .before .before .before .before .before .before .args in
-    let l = c .before .before .before .before .before .before .before .before .before .loop in
-    let test = c .before .before .before .before .before .before .before .before .loop-test .taken in
-    let e = c .before .before .before .before .before .examine-code in
-    let h = rw (c .before .after .given .1) at (e .ensures .0) in (
+    let accepted = c .before in
+    let at-examine-code = accepted .before .before .before .before in
+    let at-code-at = at-examine-code .before .before in
+    let in-turn = at-code-at .before in
+    let at-loop = in-turn .before in
+    let start = at-loop .before .before .before in
+    let a = start .args in
+    let l = at-loop .loop in
+    let e = at-examine-code .examine-code in
+    let h = rw (accepted .after .given .1) at (e .ensures .0) in (
       omega arith,
       e .kept .1 .1 .1 .1 .1 .1 .0 ∙ l .inv .1,
       h .0,
-      omega (arith, h .1, l .inv .3),
+      omega arith,
       l .inv .4
           ∙ bytes-more (l .read) (a .mem .now) (a .settings) (a .room .source) (a .room .end) (bytes (a .w)) (a .n) (l .i) (soFar (l .current) (l .cells))
-          test (c .before .before .before .before .before .before .before .before .before .before .before .before .pre .2) (sym (rw (c .before .after .given .1, c .before .before .before .before .before .before .before .code-at .ensures) at (e .ensures .1))),
+          (in-turn .loop-test .taken) (start .pre .2) (sym (rw (accepted .after .given .1, at-code-at .code-at .ensures) at (e .ensures .1))),
     )
 
 returns-2 : tie.Need-returns-2 Inv-loop μ-loop
@@ -67,19 +78,6 @@ returns-2 c =
 
 pub draw-word-spec : {M : Type 1} → statement M
 draw-word-spec =
-    tie.close
-    (tie.spec
-    Inv-loop
-    μ-loop
-    loop-holds
-    (λ c κs. search needs)
-    (λ c κs. search needs)
-    (λ c. search needs)
-    (λ c. search needs)
-    returns
-    (λ c. search needs)
-    (λ c. search needs)
-    (λ c. search needs)
-    loop-again
-    (λ c. search needs)
-    returns-2)
+    tie.close (tie.spec Inv-loop μ-loop loop-holds (λ c κs. search needs) (λ c κs. search needs) (λ c. search needs)
+    (λ c. search needs) returns (λ c. search needs) (λ c. search needs) (λ c. search needs) loop-again
+    (λ c. search needs) returns-2)

@@ -1,6 +1,6 @@
 -- Each turn takes one word with its one or two codes: what is left to draw from here is the whole segment's.
-use mathlib.Core.Path.{_≡_, refl, sym, _∙_}
-use Prim.Native.Nat.{_+_, _*_, _≤_, _<_}
+use mathlib.Core.Path.{_≡_, sym, _∙_}
+use Prim.Native.Nat.{_+_, _*_, _≤_}
 use native.Mathlib.Omega.{arith}
 use lib.ListN.{length}
 use Rattle.memory.specs.Reading.{runFrom}
@@ -19,57 +19,64 @@ Inv-loop mem settings room count words cells₀ left₀ at₀ current₀ read₀
 abbrev μ-loop : tie.MeasureT-loop
 μ-loop mem settings room count words cells₀ left₀ at₀ current₀ read₀ cells left at current read = left
 
-loop-holds : tie.Need-loop-holds Inv-loop μ-loop
-loop-holds c = (refl, c .before .before .pre .1, omega arith, refl)
-
 returns : tie.Need-returns Inv-loop μ-loop
 returns c =
-    let small : c .before .missing .result .from < 4294967296 = search needs in
-    let a = c .before .before .before .before .before .before .before .before .before .args in
-    let l = c .before .before .before .before .before .before .loop in (
-      (omega (arith, small), omega arith),
+    let absent = c .before .before in
+    let at-word-at = absent .before .before in
+    let in-turn = at-word-at .before in
+    let at-loop = in-turn .before in
+    let a = at-loop .before .before .before .args in
+    let l = at-loop .loop in (
+      (omega (arith, c .before .missing), omega arith),
       rw (c .before .missing .ensures) (sym (l .inv .3
-          ∙ codes-absent (l .read) (a .mem .now) (a .settings) (a .room .source) (a .room .end) (l .at) (soFar (l .current) (l .cells)) (l .left) (c .before .before .before .before .before .loop-test .taken)
-          (sym (c .before .before .before .before .word-at .ensures) ∙ c .before .before .enum-told .given .1))),
+          ∙ codes-absent (l .read) (a .mem .now) (a .settings) (a .room .source) (a .room .end) (l .at) (soFar (l .current) (l .cells)) (l .left) (in-turn .loop-test .taken)
+          (sym (at-word-at .word-at .ensures) ∙ absent .enum-told .given .1))),
     )
 
 draw-word-requires : tie.Need-draw-word-requires Inv-loop μ-loop
 draw-word-requires c κs =
     let l = c .before .before .before .before .before .before .before .loop in
-    (omega (arith, l .inv .0, c .before .before .before .before .before .before .before .before .before .before .pre .0), l .inv .1, omega (arith, c .before .codes-in-word .ensures), omega (arith, l .inv .2, c .before .before .before .before .before .before .before .before .before .before .pre .2, c .before .before .before .before .before .before .before .before .before .before .pre .3, c .before .before .before .before .before .before .loop-test .taken))
+    (omega arith, l .inv .1, omega arith, omega arith)
 
 returns-2 : tie.Need-returns-2 Inv-loop μ-loop
 returns-2 c =
-    let a = c .before .before .before .before .before .before .before .before .before .before .before .before .before .before .before .before .args in
-    let l = c .before .before .before .before .before .before .before .before .before .before .before .before .before .loop in (
-      ((rw (c .before .number .given .1) at (c .before .before .before .before .before .draw-word .ensures .0)) .0, omega arith),
+    let refused = c .before in
+    let at-draw-word = refused .before .before .before .before in
+    let at-codes-in-word = at-draw-word .before .before in
+    let there = at-codes-in-word .before .before in
+    let at-word-at = there .before .before in
+    let in-turn = at-word-at .before in
+    let at-loop = in-turn .before in
+    let a = at-loop .before .before .before .args in
+    let l = at-loop .loop in (
+      ((rw (refused .number .given .1) at (at-draw-word .draw-word .ensures .0)) .0, omega arith),
       sym (l .inv .3
           ∙ codes-refused (l .read) (a .mem .now) (a .settings) (a .room .source) (a .room .end) (l .at) (soFar (l .current) (l .cells)) _
-          (sym (c .before .before .before .before .before .before .before .before .before .before .before .word-at .ensures) ∙ c .before .before .before .before .before .before .before .before .before .w .given .1) (l .left) (c .before .before .before .before .before .before .before .before .before .before .before .before .loop-test .taken)
-          (sym (rw (c .before .number .given .1, c .before .before .before .before .before .before .before .codes-in-word .ensures) at (c .before .before .before .before .before .draw-word .ensures .1)))),
+          (sym (at-word-at .word-at .ensures) ∙ there .w .given .1) (l .left) (in-turn .loop-test .taken)
+          (sym (rw (refused .number .given .1, at-codes-in-word .codes-in-word .ensures) at (at-draw-word .draw-word .ensures .1)))),
     )
-
-sub-left : tie.Need-sub-left Inv-loop μ-loop
-sub-left c = omega (arith, c .before .before .before .before .before .before .before .before .codes-in-word .ensures)
-
-loop-less : tie.Need-loop-less Inv-loop μ-loop
-loop-less c = omega (arith, c .before .before .before .before .before .before .before .before .codes-in-word .ensures, c .before .before .before .before .before .before .before .before .before .before .before .before .before .loop-test .taken)
 
 loop-again : tie.Need-loop-again Inv-loop μ-loop
 loop-again c =
-    let a = c .before .before .before .before .before .before .before .before .before .before .before .before .before .before .before .before .before .args in
-    let l = c .before .before .before .before .before .before .before .before .before .before .before .before .before .before .loop in
-    let test = c .before .before .before .before .before .before .before .before .before .before .before .before .before .loop-test .taken in
-    let e = c .before .before .before .before .before .before .draw-word in
-    let h = rw (c .before .before .after .given .1, c .before .before .before .before .before .before .before .before .codes-in-word .ensures) at (e .ensures .0) in (
+    let accepted = c .before .before in
+    let at-draw-word = accepted .before .before .before .before in
+    let at-codes-in-word = at-draw-word .before .before in
+    let there = at-codes-in-word .before .before in
+    let at-word-at = there .before .before in
+    let in-turn = at-word-at .before in
+    let at-loop = in-turn .before in
+    let a = at-loop .before .before .before .args in
+    let l = at-loop .loop in
+    let e = at-draw-word .draw-word in
+    let h = rw (accepted .after .given .1, at-codes-in-word .codes-in-word .ensures) at (e .ensures .0) in (
       e .kept .1 .1 .1 .1 .1 .1 .1 .0 ∙ l .inv .0,
       h .0,
-      omega (arith, h .1, l .inv .2, c .before .before .before .before .before .before .before .before .codes-in-word .ensures),
+      omega arith,
       l .inv .3
           ∙ codes-more (l .read) (a .mem .now) (a .settings) (a .room .source) (a .room .end) (l .at) (soFar (l .current) (l .cells)) _
-          (sym (c .before .before .before .before .before .before .before .before .before .before .before .before .word-at .ensures) ∙ c .before .before .before .before .before .before .before .before .before .before .w .given .1) (l .left) test
-          (sym (rw (c .before .before .after .given .1, c .before .before .before .before .before .before .before .before .codes-in-word .ensures) at (e .ensures .1)))
-          ∙ rw (c .onward .ensures, c .before .before .before .before .before .before .before .before .codes-in-word .ensures),
+          (sym (at-word-at .word-at .ensures) ∙ there .w .given .1) (l .left) (in-turn .loop-test .taken)
+          (sym (rw (accepted .after .given .1, at-codes-in-word .codes-in-word .ensures) at (e .ensures .1)))
+          ∙ rw (c .onward .ensures, at-codes-in-word .codes-in-word .ensures),
     )
 
 returns-3 : tie.Need-returns-3 Inv-loop μ-loop
@@ -82,28 +89,7 @@ returns-3 c =
 
 pub draw-word-by-word-spec : {M : Type 1} → statement M
 draw-word-by-word-spec =
-    tie.close
-    (tie.spec
-    Inv-loop
-    μ-loop
-    loop-holds
-    (λ c κs. search needs)
-    (λ c. search needs)
-    (λ c. search needs)
-    (λ c κs. search needs)
-    (λ c. search needs)
-    (λ c. search needs)
-    returns
-    (λ c κs. search needs)
-    (λ c. search needs)
-    draw-word-requires
-    (λ c. search needs)
-    (λ c. search needs)
-    returns-2
-    (λ c. search needs)
-    (λ c κs. search needs)
-    sub-left
-    loop-less
-    loop-again
-    (λ c. search needs)
-    returns-3)
+    tie.close (tie.spec Inv-loop μ-loop (λ c. search needs) (λ c κs. search needs) (λ c. search needs)
+    (λ c. search needs) (λ c κs. search needs) (λ c. search needs) (λ c. search needs) returns (λ c κs. search needs)
+    (λ c. search needs) draw-word-requires (λ c. search needs) (λ c. search needs) returns-2 (λ c. search needs)
+    (λ c κs. search needs) (λ c. omega arith) (λ c. omega arith) loop-again (λ c. search needs) returns-3)

@@ -15,10 +15,4 @@ returns-2 : tie.Need-returns-2
 returns-2 c = λ format. c .before .before .mark-words .ensures [] (plain-shaped 3) ∙ sym (redefined-words _ _ _ _ _ format (ne-eqb _ 0 (c .before .before .before .before .if1 .left)))
 
 pub mark-redefinition-spec : {M : Type 1} → statement M
-mark-redefinition-spec =
-    tie.close
-    (tie.spec
-    returns
-    (λ c κs. search needs)
-    (λ c. search needs)
-    returns-2)
+mark-redefinition-spec = tie.close (tie.spec returns (λ c κs. search needs) (λ c. search needs) returns-2)

@@ -17,11 +17,4 @@ returns-2 c =
     ∙ sym (top-words _ _ _ _ _ (rw (c .before .before .before .before .before .before .pointer-of .ensures) at (ne-eqb _ 0 (c .before .before .before .before .if1 .left))))
 
 pub mark-top-spec : {M : Type 1} → statement M
-mark-top-spec =
-    tie.close
-    (tie.spec
-    (λ c κs. search needs)
-    returns
-    (λ c κs. search needs)
-    (λ c. search needs)
-    returns-2)
+mark-top-spec = tie.close (tie.spec (λ c κs. search needs) returns (λ c κs. search needs) (λ c. search needs) returns-2)

@@ -15,10 +15,4 @@ returns-2 : tie.Need-returns-2
 returns-2 c = λ number least. c .before .before .mark-words .ensures twoPointers (two-shaped 6) ∙ sym (window-words _ _ _ _ number least _ (ne-eqb _ 0 (c .before .before .before .before .if1 .left)))
 
 pub mark-window-spec : {M : Type 1} → statement M
-mark-window-spec =
-    tie.close
-    (tie.spec
-    returns
-    (λ c κs. search needs)
-    (λ c. search needs)
-    returns-2)
+mark-window-spec = tie.close (tie.spec returns (λ c κs. search needs) (λ c. search needs) returns-2)

@@ -12,9 +12,4 @@ returns-2 : tie.Need-returns-2
 returns-2 c = (sym (rw (rw (c .before .bit-15 .ensures) at (c .if1 .left))), omega arith)
 
 pub pointed-spec : {M : Type 1} → statement M
-pointed-spec =
-    tie.close
-    (tie.spec
-    (λ c κs. search needs)
-    returns
-    returns-2)
+pointed-spec = tie.close (tie.spec (λ c κs. search needs) returns returns-2)

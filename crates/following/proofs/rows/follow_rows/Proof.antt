@@ -22,45 +22,37 @@ returns : tie.Need-returns Inv-loop μ-loop
 returns c = rows-ended _ _ _ _ _ (c .before .before .loop-test .taken) (c .if1 .taken) ∙ c .before .before .before .loop .inv .1
 
 walk-row-requires : tie.Need-walk-row-requires Inv-loop μ-loop
-walk-row-requires c κs = (c .before .before .before .before .loop .inv .0 ∙ c .before .before .before .before .before .before .before .pre .0, c .before .before .before .before .before .before .before .pre .1)
+walk-row-requires c κs =
+    let turn = c .before .before .before .before in
+    let start = turn .before .before .before in
+    (turn .loop .inv .0 ∙ start .pre .0, start .pre .1)
 
 returns-2 : tie.Need-returns-2 Inv-loop μ-loop
 returns-2 c =
+    let halted = c .before .before in
+    let at-walk-row = halted .before .before .before .before in
+    let lines-left = at-walk-row .before .before in
+    let in-turn = lines-left .before .before in
+    let turn = in-turn .before in
     rw (c .refusal-of .ensures)
-    (rows-stopped _ _ _ _ _ (c .before .before .before .before .before .before .before .before .before .before .loop-test .taken) (c .before .before .before .before .before .before .before .before .if1 .left) (rw (c .before .before .fault .given .1) at (c .before .before .before .before .before .before .walk-row .ensures)) ∙ c .before .before .before .before .before .before .before .before .before .before .before .loop .inv .1)
-
-sub-n : tie.Need-sub-n Inv-loop μ-loop
-sub-n c = omega (arith, c .before .before .before .before .before .before .before .before .before .loop-test .taken)
-
-loop-less : tie.Need-loop-less Inv-loop μ-loop
-loop-less c = omega (arith, c .before .before .before .before .before .before .before .before .before .loop-test .taken)
+    (rows-stopped _ _ _ _ _ (in-turn .loop-test .taken) (lines-left .if1 .left) (rw (halted .fault .given .1) at (at-walk-row .walk-row .ensures)) ∙ turn .loop .inv .1)
 
 loop-again : tie.Need-loop-again Inv-loop μ-loop
-loop-again c = (
-  c .before .before .before .before .before .walk-row .kept .1 .1 .0 ∙ c .before .before .before .before .before .before .before .before .before .before .loop .inv .0,
-  rows-more _ _ _ _ _ (c .before .before .before .before .before .before .before .before .before .loop-test .taken) (c .before .before .before .before .before .before .before .if1 .left) (rw (c .before .next .given .1) at (c .before .before .before .before .before .walk-row .ensures)) ∙ c .before .before .before .before .before .before .before .before .before .before .loop .inv .1,
-)
+loop-again c =
+    let went = c .before in
+    let at-walk-row = went .before .before .before .before in
+    let lines-left = at-walk-row .before .before in
+    let in-turn = lines-left .before .before in
+    let turn = in-turn .before in (
+      at-walk-row .walk-row .kept .1 .1 .0 ∙ turn .loop .inv .0,
+      rows-more _ _ _ _ _ (in-turn .loop-test .taken) (lines-left .if1 .left) (rw (went .next .given .1) at (at-walk-row .walk-row .ensures)) ∙ turn .loop .inv .1,
+    )
 
 returns-3 : tie.Need-returns-3 Inv-loop μ-loop
-returns-3 c = rows-none _ _ _ _ _ (omega (arith, c .loop-test .left)) ∙ c .before .loop .inv .1
+returns-3 c = rows-none _ _ _ _ _ (omega arith) ∙ c .before .loop .inv .1
 
 pub follow-rows-spec : {M : Type 1} → statement M
 follow-rows-spec =
-    tie.close
-    (tie.spec
-    Inv-loop
-    μ-loop
-    loop-holds
-    (λ c. search needs)
-    returns
-    walk-row-requires
-    (λ c. search needs)
-    (λ c κs. search needs)
-    (λ c. search needs)
-    returns-2
-    (λ c. search needs)
-    sub-n
-    loop-less
-    loop-again
-    (λ c. search needs)
-    returns-3)
+    tie.close (tie.spec Inv-loop μ-loop loop-holds (λ c. search needs) returns walk-row-requires (λ c. search needs)
+    (λ c κs. search needs) (λ c. search needs) returns-2 (λ c. search needs) (λ c. omega arith) (λ c. omega arith)
+    loop-again (λ c. search needs) returns-3)

@@ -12,20 +12,22 @@ walk-cells-requires c κs =
     (p .0, narrow (a .settings) (a .mem .now) (λ i. c .before .before .before .before .before .shared-slice-known .given i .fits) (a .state .fields) (a .p) (a .back .now) (a .over .now) (p .2))
 
 returns : tie.Need-returns
-returns c = planned-halted (c .before .before .before .before .before .before .before .before .before .before .before .before .args .settings) _ _ _ _ _ (rw (c .before .fault .given .1, c .before .before .before .before .before .before .before .code-settings .ensures) at (c .before .before .before .before .before .walk-cells .ensures []))
+returns c =
+    let halted = c .before in
+    let at-walk-cells = halted .before .before .before .before in
+    let at-code-settings = at-walk-cells .before .before in
+    let start = at-code-settings .before .before .before .before .before in
+    planned-halted (start .args .settings) _ _ _ _ _ (rw (halted .fault .given .1, at-code-settings .code-settings .ensures) at (at-walk-cells .walk-cells .ensures []))
 
 returns-2 : tie.Need-returns-2
-returns-2 c = planned-went (c .before .before .before .before .before .before .before .before .before .before .before .before .before .args .settings) _ _ _ _ _ (rw (c .before .before .pen .given .1, c .before .before .before .before .before .before .before .before .code-settings .ensures) at (c .before .before .before .before .before .before .walk-cells .ensures []))
+returns-2 c =
+    let went = c .before .before in
+    let at-walk-cells = went .before .before .before .before in
+    let at-code-settings = at-walk-cells .before .before in
+    let start = at-code-settings .before .before .before .before .before in
+    planned-went (start .args .settings) _ _ _ _ _ (rw (went .pen .given .1, at-code-settings .code-settings .ensures) at (at-walk-cells .walk-cells .ensures []))
 
 pub walk-planned-spec : {M : Type 1} → statement M
 walk-planned-spec =
-    tie.close
-    (tie.spec
-    (λ c κs. search needs)
-    walk-cells-requires
-    (λ c. search needs)
-    (λ c. search needs)
-    (λ c. search needs)
-    returns
-    (λ c. search needs)
-    returns-2)
+    tie.close (tie.spec (λ c κs. search needs) walk-cells-requires (λ c. search needs) (λ c. search needs)
+    (λ c. search needs) returns (λ c. search needs) returns-2)

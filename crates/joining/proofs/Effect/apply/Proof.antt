@@ -1,3 +1,4 @@
+-- The part is the one for the latch's ignore, and each part has its line of `apply`.
 use borrow.Author.Needs.{needs}
 use Rattle.joining.proofs.Effect.apply.Statement.{statement}
 use Rattle.joining.proofs.Effect.apply.Tie as tie
@@ -13,13 +14,5 @@ returns-3 c = rw (← c .before .before .before .before .bit-13 .ensures, ← c 
 
 pub apply-spec : {M : Type 1} → statement M
 apply-spec =
-    tie.close
-    (tie.spec
-    (λ c κs. search needs)
-    (λ c κs. search needs)
-    (λ c. search needs)
-    (λ c. search needs)
-    (λ c. search needs)
-    returns
-    returns-2
-    returns-3)
+    tie.close (tie.spec (λ c κs. search needs) (λ c κs. search needs) (λ c. search needs) (λ c. search needs)
+    (λ c. search needs) returns returns-2 returns-3)

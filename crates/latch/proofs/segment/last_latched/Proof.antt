@@ -1,5 +1,5 @@
 -- The words are tried from the last one down, and the first found with bit 15 is the last.
-use mathlib.Core.Path.{_≡_, refl, sym, _∙_}
+use mathlib.Core.Path.{_≡_, sym, _∙_}
 use Prim.Native.Nat.{_≤_}
 use native.Mathlib.Omega.{arith}
 use Rattle.latch.specs.Latch.{lastLatched}
@@ -14,40 +14,26 @@ Inv-loop mem at count left₀ left = (left ≤ count) × (lastLatched mem at cou
 abbrev μ-loop : tie.MeasureT-loop
 μ-loop mem at count left₀ left = left
 
-loop-holds : tie.Need-loop-holds Inv-loop μ-loop
-loop-holds c = (omega arith, refl)
-
 returns : tie.Need-returns Inv-loop μ-loop
 returns c =
-    let a = c .before .before .before .before .before .before .args in
-    let l = c .before .before .before .before .loop in
-    sym (l .inv .1 ∙ latched-turn (a .mem .now) (a .at) (l .left) (c .before .before .before .loop-test .taken) ∙ rw (← c .before .bit-15 .ensures, c .if1 .taken))
+    let at-bit-15 = c .before in
+    let in-turn = at-bit-15 .before .before in
+    let l = in-turn .before .loop in
+    sym (l .inv .1 ∙ latched-turn _ _ (l .left) (in-turn .loop-test .taken) ∙ rw (← at-bit-15 .bit-15 .ensures, c .if1 .taken))
 
 loop-again : tie.Need-loop-again Inv-loop μ-loop
 loop-again c =
-    let a = c .before .before .before .before .before .before .args in
-    let l = c .before .before .before .before .loop in
-    (omega arith, l .inv .1 ∙ latched-turn (a .mem .now) (a .at) (l .left) (c .before .before .before .loop-test .taken) ∙ rw (← c .before .bit-15 .ensures, c .if1 .left))
+    let at-bit-15 = c .before in
+    let in-turn = at-bit-15 .before .before in
+    let l = in-turn .before .loop in
+    (omega arith, l .inv .1 ∙ latched-turn _ _ (l .left) (in-turn .loop-test .taken) ∙ rw (← at-bit-15 .bit-15 .ensures, c .if1 .left))
 
 returns-2 : tie.Need-returns-2 Inv-loop μ-loop
 returns-2 c =
-    let a = c .before .before .before .args in
     let l = c .before .loop in
-    sym (l .inv .1 ∙ latched-none (a .mem .now) (a .at) (l .left) (omega arith))
+    sym (l .inv .1 ∙ latched-none _ _ (l .left) (omega arith))
 
 pub last-latched-spec : {M : Type 1} → statement M
 last-latched-spec =
-    tie.close
-    (tie.spec
-    Inv-loop
-    μ-loop
-    loop-holds
-    (λ c. search needs)
-    (λ c. search needs)
-    (λ c. search needs)
-    (λ c. search needs)
-    (λ c κs. search needs)
-    returns
-    (λ c. search needs)
-    loop-again
-    returns-2)
+    tie.close (tie.spec Inv-loop μ-loop (λ c. search needs) (λ c. search needs) (λ c. search needs) (λ c. search needs)
+    (λ c. search needs) (λ c κs. search needs) returns (λ c. search needs) loop-again returns-2)

@@ -21,29 +21,21 @@ last-latched-requires c κs = run-ends _ _ _ _ (sym (c .before .before .is-run2 
 returns-2 : tie.Need-returns-2
 unfolding overSegment
 returns-2 c =
-    let y = c .before .before .before .before .before in
-    let r = rw (y .before .before .code-count .ensures .0) at (sym (y .before .is-run .ensures) ∙ not-false _ (y .if1 .left)) in
-    rw (r, ← c .before .before .before .before .words-taken .ensures, ← c .before .before .before .is-run2 .ensures, c .before .before .if2 .taken) (c .last-latched .ensures)
+    let words-run = c .before .before in
+    let at-is-run2 = words-run .before in
+    let at-words-taken = at-is-run2 .before in
+    let codes-run = at-words-taken .before in
+    let r = rw (codes-run .before .before .code-count .ensures .0) at (sym (codes-run .before .is-run .ensures) ∙ not-false _ (codes-run .if1 .left)) in
+    rw (r, ← at-words-taken .words-taken .ensures, ← at-is-run2 .is-run2 .ensures, words-run .if2 .taken) (c .last-latched .ensures)
 
 returns-3 : tie.Need-returns-3
 unfolding overSegment
 returns-3 c =
-    let y = c .before .before .before in
-    let r = rw (y .before .before .code-count .ensures .0) at (sym (y .before .is-run .ensures) ∙ not-false _ (y .if1 .left)) in
+    let codes-run = c .before .before .before in
+    let r = rw (codes-run .before .before .code-count .ensures .0) at (sym (codes-run .before .is-run .ensures) ∙ not-false _ (codes-run .if1 .left)) in
     rw (r, ← c .before .before .words-taken .ensures, ← c .before .is-run2 .ensures, c .if2 .left)
 
 pub segment-latch-spec : {M : Type 1} → statement M
 segment-latch-spec =
-    tie.close
-    (tie.spec
-    (λ c κs. search needs)
-    (λ c. search needs)
-    (λ c. search needs)
-    (λ c κs. search needs)
-    returns
-    words-taken-requires
-    (λ c κs. search needs)
-    (λ c. search needs)
-    last-latched-requires
-    returns-2
-    returns-3)
+    tie.close (tie.spec (λ c κs. search needs) (λ c. search needs) (λ c. search needs) (λ c κs. search needs) returns
+    words-taken-requires (λ c κs. search needs) (λ c. search needs) last-latched-requires returns-2 returns-3)

@@ -12,9 +12,4 @@ returns-2 : tie.Need-returns-2
 returns-2 c = rw (← c .before .invokes .ensures, c .if1 .left) (refl, lit≤ tt)
 
 pub takes-spec : {M : Type 1} → statement M
-takes-spec =
-    tie.close
-    (tie.spec
-    (λ c κs. search needs)
-    returns
-    returns-2)
+takes-spec = tie.close (tie.spec (λ c κs. search needs) returns returns-2)

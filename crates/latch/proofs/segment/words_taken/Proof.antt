@@ -15,11 +15,5 @@ returns-2 c = rw (ne-eqb _ 0 (c .before .before .before .if1 .left), ← c .befo
 
 pub words-taken-spec : {M : Type 1} → statement M
 words-taken-spec =
-    tie.close
-    (tie.spec
-    (λ c κs. search needs)
-    (λ c. search needs)
-    (λ c. search needs)
-    (λ c κs. search needs)
-    returns
+    tie.close (tie.spec (λ c κs. search needs) (λ c. search needs) (λ c. search needs) (λ c κs. search needs) returns
     returns-2)

@@ -1,3 +1,4 @@
+-- Both edges are judged by `is_boundary`; without a window there is none.
 use Rattle.layout.specs.Layout.{edgesFit}
 use borrow.Author.Needs.{needs}
 use Rattle.layout.proofs.overlay.edges_fit.Statement.{statement}
@@ -13,11 +14,5 @@ returns-2 c ws = rw (c .before .before .before .overlay .given .1, c .before .is
 
 pub edges-fit-spec : {M : Type 1} → statement M
 edges-fit-spec =
-    tie.close
-    (tie.spec
-    (λ c. search needs)
-    (λ c. search needs)
-    (λ c κs. search needs)
-    (λ c κs. search needs)
-    returns
+    tie.close (tie.spec (λ c. search needs) (λ c. search needs) (λ c κs. search needs) (λ c κs. search needs) returns
     returns-2)

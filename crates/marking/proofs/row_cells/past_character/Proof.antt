@@ -23,11 +23,4 @@ returns-2 : tie.Need-returns-2
 returns-2 c = (c .before .before .pre, λ source code cs. past-out _ source _ _ code _ cs (rw (c .before .is-shown .ensures) at (c .if1 .left)))
 
 pub past-character-spec : {M : Type 1} → statement M
-past-character-spec =
-    tie.close
-    (tie.spec
-    (λ c κs. search needs)
-    add-moved-to
-    (λ c κs. search needs)
-    returns
-    returns-2)
+past-character-spec = tie.close (tie.spec (λ c κs. search needs) add-moved-to (λ c κs. search needs) returns returns-2)

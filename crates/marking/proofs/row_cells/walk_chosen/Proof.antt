@@ -13,10 +13,4 @@ unfolding walk
 returns-2 c = (omega arith, λ source cs. rw (c .if1 .left))
 
 pub walk-chosen-spec : {M : Type 1} → statement M
-walk-chosen-spec =
-    tie.close
-    (tie.spec
-    (λ c κs. search needs)
-    (λ c. search needs)
-    returns
-    returns-2)
+walk-chosen-spec = tie.close (tie.spec (λ c κs. search needs) (λ c. search needs) returns returns-2)

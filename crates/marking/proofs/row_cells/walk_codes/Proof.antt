@@ -24,76 +24,67 @@ Inv-loop mem marks₀ settings end count left₀ at₀ current₀ marks left at 
 abbrev μ-loop : tie.MeasureT-loop
 μ-loop mem marks₀ settings end count left₀ at₀ current₀ marks left at current = left
 
-loop-holds : tie.Need-loop-holds Inv-loop μ-loop
-loop-holds c = (refl, c .before .before .pre .1, λ r source h. h)
-
-mark-word-requires : tie.Need-mark-word-requires Inv-loop μ-loop
-mark-word-requires c κs = c .before .before .loop .inv .0 ∙ c .before .before .before .before .before .pre .0
-
 returns : tie.Need-returns Inv-loop μ-loop
-returns c = (
-  tt,
-  λ source.
-      c .before .before .before .before .before .before .before .before .loop .inv .2 _ source (λ cs. codes-halted _ _ _ _ cs _ _ _ _ (c .before .before .before .before .before .before .before .loop-test .taken) (rw (c .before .fault .given .1) at (c .before .before .before .before .before .mark-word .ensures Other refl))),
-)
+returns c =
+    let halted = c .before in
+    let at-mark-word = halted .before .before .before .before in
+    let in-turn = at-mark-word .before .before in
+    let turn = in-turn .before in (
+      tt,
+      λ source.
+          turn .loop .inv .2 _ source (λ cs. codes-halted _ _ _ _ cs _ _ _ _ (in-turn .loop-test .taken) (rw (halted .fault .given .1) at (at-mark-word .mark-word .ensures Other refl))),
+    )
 
 walk-word-requires : tie.Need-walk-word-requires Inv-loop μ-loop
-walk-word-requires c κs = (
-  c .before .before .before .before .before .before .before .mark-word .kept .1 .0 ∙ c .before .before .before .before .before .before .before .before .before .before .loop .inv .0 ∙ c .before .before .before .before .before .before .before .before .before .before .before .before .before .pre .0,
-  c .before .before .before .before .before .before .before .before .before .before .loop .inv .1,
-  omega (arith, c .before .codes-in-word .ensures, c .before .before .before .before .before .before .before .before .before .loop-test .taken),
-  omega (arith, c .before .codes-in-word .ensures),
-)
+walk-word-requires c κs =
+    let at-mark-word = c .before .before .before .before .before .before .before in
+    let turn = at-mark-word .before .before .before in
+    let start = turn .before .before .before in (
+      at-mark-word .mark-word .kept .1 .0 ∙ turn .loop .inv .0 ∙ start .pre .0,
+      turn .loop .inv .1,
+      omega arith,
+      omega arith,
+    )
 
 returns-2 : tie.Need-returns-2 Inv-loop μ-loop
-returns-2 c = (
-  tt,
-  λ source.
-      c .before .before .before .before .before .before .before .before .before .before .before .before .before .before .before .before .loop .inv .2 _ source (λ cs.
-      codes-word-halted _ _ _ _ cs _ _ _ _ _ (c .before .before .before .before .before .before .before .before .before .before .before .before .before .before .before .loop-test .taken) (rw (c .before .before .before .before .before .before .before .before .before .w .given .1) at (c .before .before .before .before .before .before .before .before .before .before .before .before .before .mark-word .ensures Other refl))
-      (rw (c .before .fault2 .given .1, c .before .before .before .before .before .before .before .codes-in-word .ensures) at (c .before .before .before .before .before .walk-word .ensures .1 source cs))),
-)
-
-sub-left : tie.Need-sub-left Inv-loop μ-loop
-sub-left c = omega (arith, c .before .before .before .before .before .before .before .before .codes-in-word .ensures)
-
-loop-less : tie.Need-loop-less Inv-loop μ-loop
-loop-less c = omega (arith, c .before .before .before .before .before .before .before .before .codes-in-word .ensures, c .before .before .before .before .before .before .before .before .before .before .before .before .before .before .before .before .loop-test .taken)
+returns-2 c =
+    let halted = c .before in
+    let at-walk-word = halted .before .before .before .before in
+    let at-codes-in-word = at-walk-word .before .before in
+    let marked = at-codes-in-word .before .before in
+    let at-mark-word = marked .before .before .before .before in
+    let in-turn = at-mark-word .before .before in
+    let turn = in-turn .before in (
+      tt,
+      λ source.
+          turn .loop .inv .2 _ source (λ cs.
+          codes-word-halted _ _ _ _ cs _ _ _ _ _ (in-turn .loop-test .taken) (rw (marked .w .given .1) at (at-mark-word .mark-word .ensures Other refl))
+          (rw (halted .fault2 .given .1, at-codes-in-word .codes-in-word .ensures) at (at-walk-word .walk-word .ensures .1 source cs))),
+    )
 
 loop-again : tie.Need-loop-again Inv-loop μ-loop
-loop-again c = (
-  c .before .before .before .before .before .before .walk-word .kept .1 .0 ∙ c .before .before .before .before .before .before .before .before .before .before .before .before .before .before .mark-word .kept .1 .0 ∙ c .before .before .before .before .before .before .before .before .before .before .before .before .before .before .before .before .before .loop .inv .0,
-  rw (c .before .before .after .given .1) at (c .before .before .before .before .before .before .walk-word .ensures .0),
-  λ r source k. c .before .before .before .before .before .before .before .before .before .before .before .before .before .before .before .before .before .loop .inv .2 r source (λ cs.
-      codes-more _ _ _ _ cs _ _ _ _ _ (c .before .before .before .before .before .before .before .before .before .before .before .before .before .before .before .before .loop-test .taken) (rw (c .before .before .before .before .before .before .before .before .before .before .w .given .1) at (c .before .before .before .before .before .before .before .before .before .before .before .before .before .before .mark-word .ensures Other refl))
-      (rw (c .before .before .after .given .1, c .before .before .before .before .before .before .before .before .codes-in-word .ensures) at (c .before .before .before .before .before .before .walk-word .ensures .1 source cs))
-      (λ ds. rw (c .onward .ensures, c .before .before .before .before .before .before .before .before .codes-in-word .ensures) at (k ds))),
-)
+loop-again c =
+    let went = c .before .before in
+    let at-walk-word = went .before .before .before .before in
+    let at-codes-in-word = at-walk-word .before .before in
+    let marked = at-codes-in-word .before .before in
+    let at-mark-word = marked .before .before .before .before in
+    let in-turn = at-mark-word .before .before in
+    let turn = in-turn .before in (
+      at-walk-word .walk-word .kept .1 .0 ∙ at-mark-word .mark-word .kept .1 .0 ∙ turn .loop .inv .0,
+      rw (went .after .given .1) at (at-walk-word .walk-word .ensures .0),
+      λ r source k. turn .loop .inv .2 r source (λ cs.
+          codes-more _ _ _ _ cs _ _ _ _ _ (in-turn .loop-test .taken) (rw (marked .w .given .1) at (at-mark-word .mark-word .ensures Other refl))
+          (rw (went .after .given .1, at-codes-in-word .codes-in-word .ensures) at (at-walk-word .walk-word .ensures .1 source cs))
+          (λ ds. rw (c .onward .ensures, at-codes-in-word .codes-in-word .ensures) at (k ds))),
+    )
 
 returns-3 : tie.Need-returns-3 Inv-loop μ-loop
-returns-3 c = (c .before .loop .inv .1, λ source. c .before .loop .inv .2 _ source (λ cs. codes-none _ _ _ _ cs _ _ _ _ (omega (arith, c .loop-test .left))))
+returns-3 c = (c .before .loop .inv .1, λ source. c .before .loop .inv .2 _ source (λ cs. codes-none _ _ _ _ cs _ _ _ _ (omega arith)))
 
 pub walk-codes-spec : {M : Type 1} → statement M
 walk-codes-spec =
-    tie.close
-    (tie.spec
-    Inv-loop
-    μ-loop
-    loop-holds
-    mark-word-requires
-    (λ c. search needs)
-    (λ c. search needs)
-    returns
-    (λ c. search needs)
-    (λ c κs. search needs)
-    walk-word-requires
-    (λ c. search needs)
-    (λ c. search needs)
-    returns-2
-    (λ c. search needs)
-    (λ c κs. search needs)
-    sub-left
-    loop-less
-    loop-again
-    (λ c. search needs)
-    returns-3)
+    tie.close (tie.spec Inv-loop μ-loop (λ c. search needs) (λ c κs. search needs) (λ c. search needs)
+    (λ c. search needs) returns (λ c. search needs) (λ c κs. search needs) walk-word-requires (λ c. search needs)
+    (λ c. search needs) returns-2 (λ c. search needs) (λ c κs. search needs) (λ c. omega arith) (λ c. omega arith)
+    loop-again (λ c. search needs) returns-3)

@@ -11,35 +11,33 @@ returns : tie.Need-returns
 returns c = (tt, λ σ fill e cs. fill-halted _ _ σ _ cs fill _ (rw (c .before .fault .given .1) at (c .before .before .before .before .before .mark-word .ensures Other refl)))
 
 returns-2 : tie.Need-returns-2
-returns-2 c = (
-  rw (c .moved-to .ensures) (omega arith),
-  λ σ fill e cs.
-      rw (c .moved-to .ensures, c .before .take-word .ensures, ← e)
-      (fill-word _ _ σ _ cs fill _ (c .before .before .before .before .before .before .before .before .before .before .before .before .before .before .pre .1) (rw (c .before .before .before .before .before .w .given .1) at (c .before .before .before .before .before .before .before .before .before .mark-word .ensures Other refl)) (sym (c .before .before .before .bit-15 .ensures) ∙ c .before .before .if1 .taken)),
-)
+returns-2 c =
+    let at-take-word = c .before in
+    let bit-set = at-take-word .before in
+    let at-bit-15 = bit-set .before in
+    let marked = at-bit-15 .before .before in
+    let at-mark-word = marked .before .before .before .before in
+    let start = at-mark-word .before .before .before .before .before in (
+      rw (c .moved-to .ensures) (omega arith),
+      λ σ fill e cs.
+          rw (c .moved-to .ensures, at-take-word .take-word .ensures, ← e)
+          (fill-word _ _ σ _ cs fill _ (start .pre .1) (rw (marked .w .given .1) at (at-mark-word .mark-word .ensures Other refl)) (sym (at-bit-15 .bit-15 .ensures) ∙ bit-set .if1 .taken)),
+    )
 
 returns-3 : tie.Need-returns-3
-returns-3 c = (
-  tt,
-  λ σ fill e cs.
-      rw (c .unlatched .ensures)
-      (fill-unlatched _ _ σ _ cs fill _ (rw (c .before .before .before .before .w .given .1) at (c .before .before .before .before .before .before .before .before .mark-word .ensures Other refl)) (sym (c .before .before .bit-15 .ensures) ∙ c .before .if1 .left)),
-)
+returns-3 c =
+    let bit-clear = c .before in
+    let at-bit-15 = bit-clear .before in
+    let marked = at-bit-15 .before .before in
+    let at-mark-word = marked .before .before .before .before in (
+      tt,
+      λ σ fill e cs.
+          rw (c .unlatched .ensures)
+          (fill-unlatched _ _ σ _ cs fill _ (rw (marked .w .given .1) at (at-mark-word .mark-word .ensures Other refl)) (sym (at-bit-15 .bit-15 .ensures) ∙ bit-clear .if1 .left)),
+    )
 
 pub walk-fill-word-spec : {M : Type 1} → statement M
 walk-fill-word-spec =
-    tie.close
-    (tie.spec
-    (λ c κs. search needs)
-    (λ c. search needs)
-    (λ c. search needs)
-    (λ c κs. search needs)
-    (λ c κs. search needs)
-    (λ c κs. search needs)
-    (λ c κs. search needs)
-    (λ c. search needs)
-    returns
-    (λ c. search needs)
-    returns-2
-    (λ c. search needs)
-    returns-3)
+    tie.close (tie.spec (λ c κs. search needs) (λ c. search needs) (λ c. search needs) (λ c κs. search needs)
+    (λ c κs. search needs) (λ c κs. search needs) (λ c κs. search needs) (λ c. search needs) returns (λ c. search needs)
+    returns-2 (λ c. search needs) returns-3)

@@ -15,23 +15,19 @@ returns c = (tt, λ source cs. then-halted _ _ _ _ (rw (c .before .fault .given 
 returns-2 : tie.Need-returns-2
 unfolding segmentsTo
 returns-2 c =
-    let a = c .before .before .before .before .before .before .before .before .before .before .before .before .before .args in
-    let small = c .before .before .before .before .before .before .before .before .before .before .before .before .before .good .1 .1 .1 .1 .1 .1 .0 .1 .1 .0 .1 in
-    let reached = rw (c .before .before .before .before .before .after .given .1) at (c .before .before .before .before .before .before .before .before .before .walk-side .ensures .0) in (
-      c .before .before .walk-fill .ensures .0 (a .pen .column + 100000) (omega (arith, c .before .before .before .before .before .before .before .before .before .before .before .before .before .pre .2)) (omega (arith, reached, small)),
+    let at-walk-fill = c .before .before in
+    let went = at-walk-fill .before .before .before in
+    let at-walk-side = went .before .before .before .before in
+    let start = at-walk-side .before .before .before .before in
+    let a = start .args in
+    let small = start .good .1 .1 .1 .1 .1 .1 .0 .1 .1 .0 .1 in
+    let reached = rw (went .after .given .1) at (at-walk-side .walk-side .ensures .0) in (
+      at-walk-fill .walk-fill .ensures .0 (a .pen .column + 100000) (omega arith) (omega arith),
       λ source cs.
-          then-went _ _ _ _ (rw (c .before .before .before .before .before .after .given .1) at (c .before .before .before .before .before .before .before .before .before .walk-side .ensures .1 source cs)) (λ ds. c .before .before .walk-fill .ensures .1 (a .settings) refl ds),
+          then-went _ _ _ _ (rw (went .after .given .1) at (at-walk-side .walk-side .ensures .1 source cs)) (λ ds. at-walk-fill .walk-fill .ensures .1 (a .settings) refl ds),
     )
 
 pub walk-run-spec : {M : Type 1} → statement M
 walk-run-spec =
-    tie.close
-    (tie.spec
-    (λ c κs. search needs)
-    (λ c. search needs)
-    (λ c. search needs)
-    (λ c κs. search needs)
-    (λ c. search needs)
-    returns
-    (λ c. search needs)
-    returns-2)
+    tie.close (tie.spec (λ c κs. search needs) (λ c. search needs) (λ c. search needs) (λ c κs. search needs)
+    (λ c. search needs) returns (λ c. search needs) returns-2)

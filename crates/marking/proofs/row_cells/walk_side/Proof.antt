@@ -36,77 +36,69 @@ loop-holds c = (omega arith, refl, omega arith, omega arith, λ r source h cs. r
 
 walk-chosen-requires : tie.Need-walk-chosen-requires Inv-loop μ-loop
 walk-chosen-requires c κs =
-    let l = c .before .before .before .before .before .loop in
-    let small : c .before .before .before .before .before .before .before .before .before .args .count .number < 256 = search needs in
-    (l .inv .1 ∙ c .before .before .before .before .before .before .before .before .before .pre .0, omega (arith, l .inv .0, l .inv .3, c .before .before .before .before .before .before .before .before .before .pre .1, small))
+    let turn = c .before .before .before .before .before in
+    let start = turn .before .before .before .before in
+    (turn .loop .inv .1 ∙ start .pre .0, omega arith)
 
 returns : tie.Need-returns Inv-loop μ-loop
-returns c = (
-  tt,
-  λ source.
-      c .before .before .before .before .before .before .before .before .before .before .before .loop .inv .4 _ source (λ cs.
-      side-halted _ _ _ _ _ _ _ _ _ _ _ cs (c .before .before .before .before .before .before .before .before .before .before .loop-test .taken)
-      (rw (c .before .fault .given .1, c .before .before .before .before .before .before .before .on-side .ensures, c .before .before .before .before .before .before .before .before .width .ensures, c .before .before .before .before .before .before .before .before .before .segment-at .ensures) at (c .before .before .before .before .before .walk-chosen .ensures .1 source cs))),
-)
+returns c =
+    let halted = c .before in
+    let at-walk-chosen = halted .before .before .before .before in
+    let at-on-side = at-walk-chosen .before .before in
+    let at-width = at-on-side .before in
+    let at-segment-at = at-width .before in
+    let in-turn = at-segment-at .before in
+    let turn = in-turn .before in (
+      tt,
+      λ source.
+          turn .loop .inv .4 _ source (λ cs.
+          side-halted _ _ _ _ _ _ _ _ _ _ _ cs (in-turn .loop-test .taken)
+          (rw (halted .fault .given .1, at-on-side .on-side .ensures, at-width .width .ensures, at-segment-at .segment-at .ensures) at (at-walk-chosen .walk-chosen .ensures .1 source cs))),
+    )
 
 add-at : tie.Need-add-at Inv-loop μ-loop
 add-at c =
-    let l = c .before .before .before .before .before .before .before .before .before .before .before .loop in
-    let small : c .before .before .before .before .before .before .before .before .before .before .before .before .before .before .before .args .count .number < 256 = search needs in
-    let g = c .before .before .before .before .before .before .before .before .before .segment-at in
-    omega (arith, l .inv .0, l .inv .2, small, width-byte (c .before .before .before .before .before .before .before .before .before .before .before .before .before .before .before .args .settings .hidden) (g .result) (g .ok .1 .1 .1 .1 .0 .1) (g .ok .1 .1 .1 .1 .1 .0 .1), c .before .before .before .before .before .before .before .before .width .ensures)
-
-add-i : tie.Need-add-i Inv-loop μ-loop
-add-i c =
-    let small : c .before .before .before .before .before .before .before .before .before .before .before .before .before .before .before .args .count .number < 256 = search needs in
-    let k : c .before .before .before .before .before .before .before .before .before .before .before .loop .i + 1 < 256 = omega (arith, c .before .before .before .before .before .before .before .before .before .before .loop-test .taken, small) in
-    search (needs, k)
-
-loop-less : tie.Need-loop-less Inv-loop μ-loop
-loop-less c = omega (arith, c .before .before .before .before .before .before .before .before .before .before .loop-test .taken)
+    let at-on-side = c .before .before .before .before .before .before .before in
+    let at-segment-at = at-on-side .before .before in
+    let turn = at-segment-at .before .before in
+    let start = turn .before .before .before .before in
+    let small : start .args .count .number < 256 = search needs in
+    let g = at-segment-at .segment-at in
+    omega (arith, width-byte (start .args .settings .hidden) (g .result) (g .ok .1 .1 .1 .1 .0 .1) (g .ok .1 .1 .1 .1 .1 .0 .1))
 
 loop-again : tie.Need-loop-again Inv-loop μ-loop
 loop-again c =
-    let l = c .before .before .before .before .before .before .before .before .before .before .before .loop in
-    let g = c .before .before .before .before .before .before .before .before .before .segment-at in
-    let w = width-byte (c .before .before .before .before .before .before .before .before .before .before .before .before .before .before .before .args .settings .hidden) (g .result) (g .ok .1 .1 .1 .1 .0 .1) (g .ok .1 .1 .1 .1 .1 .0 .1) in
-    let h = rw (c .before .after .given .1) at (c .before .before .before .before .before .walk-chosen .ensures .0) in (
-      omega (arith, c .before .before .before .before .before .before .before .before .before .before .loop-test .taken),
-      c .before .before .before .before .before .walk-chosen .kept .1 .0 ∙ l .inv .1,
-      omega (arith, l .inv .2, w, c .before .before .before .before .before .before .before .before .width .ensures),
-      omega (arith, l .inv .3, h),
+    let went = c .before in
+    let at-walk-chosen = went .before .before .before .before in
+    let at-on-side = at-walk-chosen .before .before in
+    let at-width = at-on-side .before in
+    let at-segment-at = at-width .before in
+    let in-turn = at-segment-at .before in
+    let turn = in-turn .before in
+    let start = turn .before .before .before .before in
+    let l = turn .loop in
+    let g = at-segment-at .segment-at in
+    let w = width-byte (start .args .settings .hidden) (g .result) (g .ok .1 .1 .1 .1 .0 .1) (g .ok .1 .1 .1 .1 .1 .0 .1) in
+    let reached = rw (went .after .given .1) at (at-walk-chosen .walk-chosen .ensures .0) in (
+      omega arith,
+      at-walk-chosen .walk-chosen .kept .1 .0 ∙ l .inv .1,
+      omega arith,
+      omega arith,
       λ r source k. l .inv .4 r source (λ cs.
-          side-more _ _ _ _ _ _ _ _ _ _ _ cs (c .before .before .before .before .before .before .before .before .before .before .loop-test .taken)
-          (rw (c .before .after .given .1, c .before .before .before .before .before .before .before .on-side .ensures, c .before .before .before .before .before .before .before .before .width .ensures, c .before .before .before .before .before .before .before .before .before .segment-at .ensures) at (c .before .before .before .before .before .walk-chosen .ensures .1 source cs))
-          (λ ds. rw (c .before .before .before .before .before .before .before .before .width .ensures, c .before .before .before .before .before .before .before .before .before .segment-at .ensures) at (k ds))),
+          side-more _ _ _ _ _ _ _ _ _ _ _ cs (in-turn .loop-test .taken)
+          (rw (went .after .given .1, at-on-side .on-side .ensures, at-width .width .ensures, at-segment-at .segment-at .ensures) at (at-walk-chosen .walk-chosen .ensures .1 source cs))
+          (λ ds. rw (at-width .width .ensures, at-segment-at .segment-at .ensures) at (k ds))),
     )
 
 returns-2 : tie.Need-returns-2 Inv-loop μ-loop
 returns-2 c =
     let l = c .before .loop in (
-      omega (arith, l .inv .3, l .inv .0, c .loop-test .left),
-      λ source. l .inv .4 _ source (λ cs. side-none _ _ _ _ _ _ _ _ _ _ _ cs (omega (arith, c .loop-test .left))),
+      omega arith,
+      λ source. l .inv .4 _ source (λ cs. side-none _ _ _ _ _ _ _ _ _ _ _ cs (omega arith)),
     )
 
 pub walk-side-spec : {M : Type 1} → statement M
 walk-side-spec =
-    tie.close
-    (tie.spec
-    Inv-loop
-    μ-loop
-    (λ c. search needs)
-    loop-holds
-    (λ c κs. search needs)
-    (λ c κs. search needs)
-    (λ c κs. search needs)
-    walk-chosen-requires
-    (λ c. search needs)
-    (λ c. search needs)
-    returns
-    (λ c. search needs)
-    add-at
-    add-i
-    loop-less
-    loop-again
-    (λ c. search needs)
-    returns-2)
+    tie.close (tie.spec Inv-loop μ-loop (λ c. search needs) loop-holds (λ c κs. search needs) (λ c κs. search needs)
+    (λ c κs. search needs) walk-chosen-requires (λ c. search needs) (λ c. search needs) returns (λ c. search needs)
+    add-at (λ c. omega arith) (λ c. omega arith) loop-again (λ c. search needs) returns-2)

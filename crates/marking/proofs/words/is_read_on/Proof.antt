@@ -10,8 +10,4 @@ unfolding readOn
 returns c = rw (c .before .points-at .ensures) refl
 
 pub is-read-on-spec : {M : Type 1} → statement M
-is-read-on-spec =
-    tie.close
-    (tie.spec
-    (λ c κs. search needs)
-    returns)
+is-read-on-spec = tie.close (tie.spec (λ c κs. search needs) returns)

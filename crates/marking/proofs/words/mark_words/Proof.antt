@@ -28,56 +28,39 @@ abbrev μ-loop : tie.MeasureT-loop
 loop-holds : tie.Need-loop-holds Inv-loop μ-loop
 loop-holds c = (omega arith, refl, λ rs h. rw sub-zero)
 
-mark-word-requires : tie.Need-mark-word-requires Inv-loop μ-loop
-mark-word-requires c κs = c .before .before .before .loop .inv .1 ∙ c .before .before .before .before .before .before .pre
-
 returns : tie.Need-returns Inv-loop μ-loop
 returns c = λ rs h.
-    let a = c .before .before .before .before .before .before .before .before .before .before .before .before .args in
-    let l = c .before .before .before .before .before .before .before .before .before .loop in
-    let e = ap mark (role-ahead (l .i) rs) ∙ h (l .i) (c .before .before .before .before .before .before .before .before .loop-test .taken) ∙ sym (c .before .before .before .before .before .before .mark-at .ensures) in
-    sym (l .inv .2 rs h ∙ words-halted _ _ _ _ _ _ _ (omega (arith, c .before .before .before .before .before .before .before .before .loop-test .taken)) (sym (rw (c .before .fault .given .1) at (c .before .before .before .before .before .mark-word .ensures (roleAt (drop (l .i) rs) 0) e))))
+    let halted = c .before in
+    let at-mark-word = halted .before .before .before .before in
+    let at-mark-at = at-mark-word .before in
+    let in-turn = at-mark-at .before .before in
+    let l = in-turn .before .loop in
+    let e = ap mark (role-ahead (l .i) rs) ∙ h (l .i) (in-turn .loop-test .taken) ∙ sym (at-mark-at .mark-at .ensures) in
+    sym (l .inv .2 rs h ∙ words-halted _ _ _ _ _ _ _ (omega arith) (sym (rw (halted .fault .given .1) at (at-mark-word .mark-word .ensures (roleAt (drop (l .i) rs) 0) e))))
 
 loop-again : tie.Need-loop-again Inv-loop μ-loop
 loop-again c =
-    let a = c .before .before .before .before .before .before .before .before .before .before .before .before .args in
-    let l = c .before .before .before .before .before .before .before .before .before .loop in (
-      omega (arith, c .before .before .before .before .before .before .before .before .loop-test .taken),
-      c .before .before .before .before .before .mark-word .kept .1 .0 ∙ l .inv .1,
+    let marked = c .before in
+    let at-mark-word = marked .before .before .before .before in
+    let at-mark-at = at-mark-word .before in
+    let in-turn = at-mark-at .before .before in
+    let l = in-turn .before .loop in (
+      omega arith,
+      at-mark-word .mark-word .kept .1 .0 ∙ l .inv .1,
       λ rs h.
-          let e = ap mark (role-ahead (l .i) rs) ∙ h (l .i) (c .before .before .before .before .before .before .before .before .loop-test .taken) ∙ sym (c .before .before .before .before .before .before .mark-at .ensures) in
+          let e = ap mark (role-ahead (l .i) rs) ∙ h (l .i) (in-turn .loop-test .taken) ∙ sym (at-mark-at .mark-at .ensures) in
           l .inv .2 rs h
-          ∙ words-went _ _ _ _ _ _ _ (omega (arith, c .before .before .before .before .before .before .before .before .loop-test .taken)) (sym (rw (c .before .enum-told .given .1) at (c .before .before .before .before .before .mark-word .ensures (roleAt (drop (l .i) rs) 0) e)))
+          ∙ words-went _ _ _ _ _ _ _ (omega arith) (sym (rw (marked .enum-told .given .1) at (at-mark-word .mark-word .ensures (roleAt (drop (l .i) rs) 0) e)))
           ∙ rw (c .onward .ensures, drop-drop 1 (l .i) rs, sub-add-eq),
     )
-
-add-i : tie.Need-add-i Inv-loop μ-loop
-add-i c = omega (arith, c .before .before .before .before .before .before .before .before .loop-test .taken)
-
-loop-less : tie.Need-loop-less Inv-loop μ-loop
-loop-less c = omega (arith, c .before .before .before .before .before .before .before .before .loop-test .taken)
 
 returns-2 : tie.Need-returns-2 Inv-loop μ-loop
 returns-2 c = λ rs h.
     let l = c .before .loop in
-    sym (l .inv .2 rs h ∙ words-none _ _ _ _ _ _ _ (omega (arith, c .loop-test .left)))
+    sym (l .inv .2 rs h ∙ words-none _ _ _ _ _ _ _ (omega arith))
 
 pub mark-words-spec : {M : Type 1} → statement M
 mark-words-spec =
-    tie.close
-    (tie.spec
-    Inv-loop
-    μ-loop
-    loop-holds
-    (λ c κs. search needs)
-    mark-word-requires
-    (λ c. search needs)
-    (λ c. search needs)
-    returns
-    (λ c. search needs)
-    (λ c κs. search needs)
-    add-i
-    loop-less
-    loop-again
-    (λ c. search needs)
-    returns-2)
+    tie.close (tie.spec Inv-loop μ-loop loop-holds (λ c κs. search needs) (λ c κs. search needs) (λ c. search needs)
+    (λ c. search needs) returns (λ c. search needs) (λ c κs. search needs) (λ c. search needs) (λ c. search needs)
+    loop-again (λ c. search needs) returns-2)

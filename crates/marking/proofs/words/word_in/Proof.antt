@@ -10,10 +10,4 @@ returns-2 c = sym (List·getD-eq-default (c .before .args .mem .now) 0 (c .if1 .
 
 pub word-in-spec : {M : Type 1} → statement M
 word-in-spec =
-    tie.close
-    (tie.spec
-    (λ c. search needs)
-    (λ c. search needs)
-    (λ c. search needs)
-    (λ c. search needs)
-    returns-2)
+    tie.close (tie.spec (λ c. search needs) (λ c. search needs) (λ c. search needs) (λ c. search needs) returns-2)

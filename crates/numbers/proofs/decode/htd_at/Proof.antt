@@ -13,11 +13,4 @@ unfolding htdAt
 returns-2 c = rw (← c .before .modes-fit .ensures, c .if1 .left)
 
 pub htd-at-spec : {M : Type 1} → statement M
-htd-at-spec =
-    tie.close
-    (tie.spec
-    (λ c. search needs)
-    (λ c κs. search needs)
-    (λ c κs. search needs)
-    returns
-    returns-2)
+htd-at-spec = tie.close (tie.spec (λ c. search needs) (λ c κs. search needs) (λ c κs. search needs) returns returns-2)

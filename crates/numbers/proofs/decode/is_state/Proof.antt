@@ -14,9 +14,4 @@ unfolding isState
 returns-2 c = rw (ne-eqb _ _ (c .if1 .left))
 
 pub is-state-spec : {M : Type 1} → statement M
-is-state-spec =
-    tie.close
-    (tie.spec
-    (λ c κs. search needs)
-    returns
-    returns-2)
+is-state-spec = tie.close (tie.spec (λ c κs. search needs) returns returns-2)

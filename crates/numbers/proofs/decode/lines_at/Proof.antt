@@ -13,11 +13,4 @@ unfolding linesAt
 returns-2 c = rw (← c .before .state-fits .ensures, c .if1 .left)
 
 pub lines-at-spec : {M : Type 1} → statement M
-lines-at-spec =
-    tie.close
-    (tie.spec
-    (λ c κs. search needs)
-    (λ c. search needs)
-    (λ c. search needs)
-    returns
-    returns-2)
+lines-at-spec = tie.close (tie.spec (λ c κs. search needs) (λ c. search needs) (λ c. search needs) returns returns-2)

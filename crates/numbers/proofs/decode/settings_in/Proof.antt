@@ -14,9 +14,4 @@ unfolding settingsIn
 returns-2 c = rw (ne-eqb _ _ (c .if1 .left))
 
 pub settings-in-spec : {M : Type 1} → statement M
-settings-in-spec =
-    tie.close
-    (tie.spec
-    (λ c κs. search needs)
-    returns
-    returns-2)
+settings-in-spec = tie.close (tie.spec (λ c κs. search needs) returns returns-2)

@@ -15,11 +15,5 @@ returns-2 c = rw (ne-eqb _ _ (c .before .if1 .left)) (c .format-fits2 .ensures)
 
 pub state-fits-spec : {M : Type 1} → statement M
 state-fits-spec =
-    tie.close
-    (tie.spec
-    (λ c. search needs)
-    (λ c κs. search needs)
-    (λ c κs. search needs)
-    (λ c κs. search needs)
-    returns
+    tie.close (tie.spec (λ c. search needs) (λ c κs. search needs) (λ c κs. search needs) (λ c κs. search needs) returns
     returns-2)

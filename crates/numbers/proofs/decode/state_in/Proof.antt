@@ -18,10 +18,4 @@ unfolding stateIn
 returns-2 c = rw (← c .before .is-state .ensures, c .if1 .left)
 
 pub state-in-spec : {M : Type 1} → statement M
-state-in-spec =
-    tie.close
-    (tie.spec
-    (λ c κs. search needs)
-    state-at-requires
-    returns
-    returns-2)
+state-in-spec = tie.close (tie.spec (λ c κs. search needs) state-at-requires returns returns-2)

@@ -14,10 +14,4 @@ unfolding windowAt
 returns-2 c = rw (ne-eqb _ _ (c .if1 .left))
 
 pub window-at-spec : {M : Type 1} → statement M
-window-at-spec =
-    tie.close
-    (tie.spec
-    (λ c. search needs)
-    (λ c κs. search needs)
-    returns
-    returns-2)
+window-at-spec = tie.close (tie.spec (λ c. search needs) (λ c κs. search needs) returns returns-2)

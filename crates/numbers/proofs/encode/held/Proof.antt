@@ -7,10 +7,4 @@ returns : tie.Need-returns
 returns c = rw (c .enum-told .given .1)
 
 pub held-spec : {M : Type 1} → statement M
-held-spec =
-    tie.close
-    (tie.spec
-    (λ c. search needs)
-    (λ c. search needs)
-    returns
-    (λ c. search needs))
+held-spec = tie.close (tie.spec (λ c. search needs) (λ c. search needs) returns (λ c. search needs))

@@ -1,5 +1,5 @@
 -- Before place i both slices agree, and they have one length: at the end they are equal.
-use mathlib.Core.Path.{_≡_, refl}
+use mathlib.Core.Path.{_≡_}
 use Prim.Native.Nat.{_≤_, _-_}
 use native.Mathlib.Omega.{arith}
 use lib.ListN.{length, take, length-set}
@@ -14,32 +14,17 @@ Inv-loop from into₀ i₀ into i = (i ≤ length from) × (length into ≡ leng
 abbrev μ-loop : tie.MeasureT-loop
 μ-loop from into₀ i₀ into i = length from - i
 
-loop-holds : tie.Need-loop-holds Inv-loop μ-loop
-loop-holds c = (omega arith, c .pre, refl)
-
 loop-again : tie.Need-loop-again Inv-loop μ-loop
 loop-again c =
     let l = c .before .before .loop in
-    (omega arith, simp length-set (l .inv .1), copy-more (l .into) (c .before .before .before .args .from .now) (l .i) (omega arith) (omega arith) (l .inv .2))
+    (omega arith, simp length-set (l .inv .1), copy-more _ _ (l .i) (omega arith) (omega arith) (l .inv .2))
 
 returns : tie.Need-returns Inv-loop μ-loop
 returns c =
     let l = c .before .loop in
-    copy-done (l .into) (c .before .before .args .from .now) (l .i) (omega arith) (omega arith) (l .inv .2)
+    copy-done _ _ (l .i) (omega arith) (omega arith) (l .inv .2)
 
 pub write-spec : {M : Type 1} → statement M
 write-spec =
-    tie.close
-    (tie.spec
-    Inv-loop
-    μ-loop
-    loop-holds
-    (λ c. search needs)
-    (λ c. search needs)
-    (λ c. search needs)
-    (λ c. search needs)
-    (λ c. search needs)
-    (λ c. search needs)
-    loop-again
-    (λ c. search needs)
-    returns)
+    tie.close (tie.spec Inv-loop μ-loop (λ c. search needs) (λ c. search needs) (λ c. search needs) (λ c. search needs)
+    (λ c. search needs) (λ c. search needs) (λ c. search needs) loop-again (λ c. search needs) returns)

@@ -20,26 +20,19 @@ returns-3 c = rw (eq-eqb _ 7 (c .before .before .before .if1 .left), eq-eqb _ 2 
 returns-4 : tie.Need-returns-4
 unfolding hostBus
 returns-4 c =
+    let at-write-report = c .before .before .before .before in
+    let at-count-row = at-write-report .before .before .before in let at-totals-at = at-count-row .before in
+    let at-if3 = at-totals-at .before .before in let at-if2 = at-if3 .before .before in let at-if1 = at-if2 .before in
     rw (
-      eq-eqb _ 7 (c .before .before .before .before .before .before .before .before .before .before .before .before .before .if1 .left),
-      eq-eqb _ 2 (c .before .before .before .before .before .before .before .before .before .before .before .before .if2 .left),
-      le-leb _ 1 (c .before .before .before .before .before .before .before .before .before .before .if3 .left),
-      ← c .before .before .before .before .before .before .before .before .totals-at .ensures,
-      ← c .before .before .before .before .before .before .before .count-row .ensures,
+      eq-eqb _ 7 (at-if1 .if1 .left),
+      eq-eqb _ 2 (at-if2 .if2 .left),
+      le-leb _ 1 (at-if3 .if3 .left),
+      ← at-totals-at .totals-at .ensures,
+      ← at-count-row .count-row .ensures,
     )
-    (c .before .before .before .before .write-report .ensures)
+    (at-write-report .write-report .ensures)
 
 pub thagaduvin-bus-spec : {M : Type 1} → statement M
 thagaduvin-bus-spec =
-    tie.close
-    (tie.spec
-    returns
-    returns-2
-    (λ c. search needs)
-    returns-3
-    (λ c κs. search needs)
-    (λ c κs. search needs)
-    (λ c κs. search needs)
-    (λ c. search needs)
-    (λ c. search needs)
-    returns-4)
+    tie.close (tie.spec returns returns-2 (λ c. search needs) returns-3 (λ c κs. search needs) (λ c κs. search needs)
+    (λ c κs. search needs) (λ c. search needs) (λ c. search needs) returns-4)

@@ -15,10 +15,4 @@ returns-2 c = rw (eq-eqb _ _ (c .before .before .before .before .before .before 
 
 pub thagaduvin-read-mail-spec : {M : Type 1} → statement M
 thagaduvin-read-mail-spec =
-    tie.close
-    (tie.spec
-    returns
-    (λ c κs. search needs)
-    (λ c. search needs)
-    (λ c. search needs)
-    returns-2)
+    tie.close (tie.spec returns (λ c κs. search needs) (λ c. search needs) (λ c. search needs) returns-2)

@@ -12,8 +12,10 @@ returns c = rw (ne-eqb _ _ (c .if1 .taken))
 returns-2 : tie.Need-returns-2
 unfolding hostWriteMail
 returns-2 c =
-    rw (eq-eqb _ _ (c .before .before .before .before .before .before .before .before .before .before .before .if1 .left), ← c .before .before .before .before .before .before .before .before .before .before .settings-in .ensures, c .before .before .before .before .before .before .before .before .s .given .1)
-    (c .before .before .before .before .write .ensures)
+    let at-write = c .before .before .before .before in let at-s = at-write .before .before .before .before in
+    let at-settings-in = at-s .before .before in let at-if1 = at-settings-in .before in
+    rw (eq-eqb _ _ (at-if1 .if1 .left), ← at-settings-in .settings-in .ensures, at-s .s .given .1)
+    (at-write .write .ensures)
 
 returns-3 : tie.Need-returns-3
 unfolding hostWriteMail
@@ -21,14 +23,5 @@ returns-3 c = rw (eq-eqb _ _ (c .before .before .before .if1 .left), ← c .befo
 
 pub thagaduvin-write-mail-spec : {M : Type 1} → statement M
 thagaduvin-write-mail-spec =
-    tie.close
-    (tie.spec
-    returns
-    (λ c κs. search needs)
-    (λ c. search needs)
-    (λ c κs. search needs)
-    (λ c. search needs)
-    (λ c. search needs)
-    (λ c. search needs)
-    returns-2
-    returns-3)
+    tie.close (tie.spec returns (λ c κs. search needs) (λ c. search needs) (λ c κs. search needs) (λ c. search needs)
+    (λ c. search needs) (λ c. search needs) returns-2 returns-3)

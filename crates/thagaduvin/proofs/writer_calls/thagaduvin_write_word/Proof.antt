@@ -14,12 +14,5 @@ returns-2 c = rw (← c .before .before .before .before .before .write-word .ens
 
 pub thagaduvin-write-word-spec : {M : Type 1} → statement M
 thagaduvin-write-word-spec =
-    tie.close
-    (tie.spec
-    (λ c κs. search needs)
-    (λ c. search needs)
-    (λ c. search needs)
-    (λ c. search needs)
-    returns
-    (λ c. search needs)
-    returns-2)
+    tie.close (tie.spec (λ c κs. search needs) (λ c. search needs) (λ c. search needs) (λ c. search needs) returns
+    (λ c. search needs) returns-2)

@@ -1,8 +1,8 @@
 -- The loop ends, since it counts its turns.
 use Prim.Native.Nat.{_-_}
 use borrow.Author.Needs.{needs}
-use Rattle.draw.proofs.read_script.Statement.{statement}
-use Rattle.draw.proofs.read_script.Tie as tie
+use Rattle.script_input.proofs.read_script.Statement.{statement}
+use Rattle.script_input.proofs.read_script.Tie as tie
 
 abbrev Inv-loop : tie.InvT-loop
 Inv-loop mem₀ script₀ turns₀ mem script turns = Unit {0}
