@@ -1,21 +1,20 @@
-/* The last row of a screen drawn alone: the sheet says how many lines there are, the effects of the rows above are joined from the empty
- * one, and applied to the frame's start latch they give the latch that the row is drawn from. Then the same row drawn in turn.
+/* The last row of a screen drawn alone: the sheet says how many lines there are, the effects of the rows above are joined
+ * from the empty one, and applied to the frame's start latch they give the latch that the row is drawn from. Then the same
+ * row drawn in turn.
  *
- *     rt staticlib thagaduvin && rt staticlib thagaduvin_effect
- *     cc -O2 -Iinclude examples/alone.c target/staticlib/libthagaduvin_effect.a target/staticlib/libthagaduvin.a -o target/alone && target/alone */
-#include <stdio.h>
-#include "thagaduvin.h"
-
-/* the words at a byte address */
-#define AT(a) [(a) / 2]
+ *     ./build library
+ *     cc -O2 -Iinclude examples/alone.c target/lib/libthagaduvin.a -o target/alone && target/alone
+ *
+ * `target/alone damaged`: row 1 has codes outside memory; alone and in turn the last row comes to the same refusal.
+ * `target/alone refused`: the main block is outside memory. */
+#include "board.h"
 
 enum { WORDS = 128, COLUMNS = 4 };
 
-static const uint32_t settings[THAGADUVIN_SETTINGS] = {
-    [THAGADUVIN_LINEAR] = 1, [THAGADUVIN_FLAG] = 0x8080, [THAGADUVIN_TOP_SECOND] = 0x10, [THAGADUVIN_VAL] = 3, [THAGADUVIN_VTOT] = 3,
-    [THAGADUVIN_HSD] = 1,    [THAGADUVIN_HTC] = 7,       [THAGADUVIN_HTD] = 1 + COLUMNS,
+static struct thagaduvin_settings settings = {
+    .linear = 1, .flag = 0x8080, .top_second = 0x10, .val = 3, .vtot = 3, .hsd = 1, .htc = 7, .htd = 1 + COLUMNS,
 };
-static const uint16_t memory[WORDS] = {
+static uint16_t memory[WORDS] = {
     AT(0x10) = 0, 0x20, 0, 0x20, 0, 0, 0,                /* main block: rows of one line */
     AT(0x20) = 0, 0x30, 1, 0, 0x60, 0, 0x70, 0x202,      /* row 0: A, and code 80, which latches an underline */
     AT(0x30) = 0, 0x40, 1, 0, 0x62, 0, 0, 0x202,         /* row 1: no attribute list, the latch stays */
@@ -24,44 +23,77 @@ static const uint16_t memory[WORDS] = {
     AT(0x70) = 0x8002,
 };
 
-static uint32_t state[THAGADUVIN_STATE], cells[THAGADUVIN_CELLS], list[THAGADUVIN_LIST], row[THAGADUVIN_ROW_ANSWER];
+static uint32_t cells[THAGADUVIN_CELLS], list[THAGADUVIN_LIST];
 
-static uint8_t start(void) {
-    uint32_t began[THAGADUVIN_START_ANSWER];
-    return thagaduvin_start(settings, THAGADUVIN_SETTINGS, memory, WORDS, 0, state, THAGADUVIN_STATE, list, THAGADUVIN_LIST, began,
-                            THAGADUVIN_START_ANSWER);
+/* A frame's first state, from latch 0. */
+static int start(struct thagaduvin_state *state) {
+    struct thagaduvin_start_answer began = {0};
+    uint8_t status = thagaduvin_start_of(&settings, memory, WORDS, 0, state, &list, &began);
+    return status == 0 ? 0 : REFUSAL(status, began);
 }
 
-static uint8_t draw(void) {
-    return thagaduvin_row(settings, THAGADUVIN_SETTINGS, memory, WORDS, state, THAGADUVIN_STATE, cells, THAGADUVIN_CELLS, list,
-                          THAGADUVIN_LIST, row, THAGADUVIN_ROW_ANSWER);
+static int draw(struct thagaduvin_state *state, struct thagaduvin_row_answer *row) {
+    uint8_t status = thagaduvin_row_of(&settings, memory, WORDS, state, &cells, &list, row);
+    return status == 0 ? 0 : REFUSAL(status, *row);
 }
 
-static void print(const char *how) {
-    printf("row %u %s:", row[THAGADUVIN_ANSWER_ROW], how);
+static void print(const char *how, const struct thagaduvin_row_answer *row) {
+    printf("row %u %s:", row->row, how);
     for (int x = 0; x < COLUMNS; x++) printf(" %08X", cells[x]);
-    printf(", words %u\n", row[THAGADUVIN_ROW_WORDS]);
+    printf(", words %u\n", row->words);
 }
 
-int main(void) {
-    uint32_t sheet[THAGADUVIN_SHEET_ANSWER], effect[THAGADUVIN_EFFECT], joined[THAGADUVIN_EFFECT];
-    uint32_t above[THAGADUVIN_EFFECT] = {0}; /* the empty effect */
-    uint32_t applied[THAGADUVIN_APPLY_ANSWER];
-    if (thagaduvin_sheet(settings, THAGADUVIN_SETTINGS, sheet, THAGADUVIN_SHEET_ANSWER) || start()) return 1;
-    printf("lines for rows: %u\n", sheet[THAGADUVIN_SHEET_LINES]);
-    while (state[THAGADUVIN_LEFT] > 1) { /* rows above the last: their effects, and no cell */
-        thagaduvin_effect(settings, THAGADUVIN_SETTINGS, memory, WORDS, state, THAGADUVIN_STATE, effect, THAGADUVIN_EFFECT);
-        thagaduvin_join(above, THAGADUVIN_EFFECT, effect, THAGADUVIN_EFFECT, joined, THAGADUVIN_EFFECT);
-        for (int i = 0; i < THAGADUVIN_EFFECT; i++) above[i] = joined[i];
+/* The effects of the rows above the last one, joined, and no cell. Where both parts of a row's effect refuse, the state
+ * stays and no row below is reached: the refusal then stands in the joined effect, whatever comes after it. */
+static uint8_t effects_above(struct thagaduvin_state *state, struct thagaduvin_effects *above) {
+    struct thagaduvin_effects effect, joined;
+    memset(above, 0, sizeof *above); /* the empty effect */
+    while (state->left > 1) {
+        uint8_t status = thagaduvin_effect_of(&settings, memory, WORDS, state, &effect);
+        if (status == 0) status = thagaduvin_join_of(above, &effect, &joined);
+        if (status != 0) return status;
+        *above = joined;
+        if (effect.ignore_clear.refusal != 0 && effect.ignore_set.refusal != 0) break;
     }
-    if (thagaduvin_apply(above, THAGADUVIN_EFFECT, 0, applied, THAGADUVIN_APPLY_ANSWER)) return 1;
-    printf("latch: %04X\n", applied[THAGADUVIN_APPLY_LATCH]);
-    state[THAGADUVIN_LATCH] = applied[THAGADUVIN_APPLY_LATCH];
-    if (draw()) return 1;
-    print("alone");
-    if (start()) return 1;
-    while (state[THAGADUVIN_LEFT] != 0)
-        if (draw()) return 1;
-    print("in turn");
     return 0;
+}
+
+/* The last row alone. */
+static int alone(struct thagaduvin_row_answer *row) {
+    struct thagaduvin_state state;
+    struct thagaduvin_effects above;
+    struct thagaduvin_apply_answer applied = {0};
+    if (start(&state)) return EXIT_FAILURE;
+    uint8_t status = effects_above(&state, &above);
+    if (status == 0) status = thagaduvin_apply_of(&above, 0, &applied);
+    if (status != 0) return REFUSAL(status, applied);
+    printf("latch: %04X\n", applied.latch);
+    state.latch = applied.latch;
+    return draw(&state, row);
+}
+
+/* All rows, the last one last. */
+static int in_turn(struct thagaduvin_row_answer *row) {
+    struct thagaduvin_state state;
+    if (start(&state)) return EXIT_FAILURE;
+    while (state.left != 0)
+        if (draw(&state, row)) return EXIT_FAILURE;
+    return 0;
+}
+
+int main(int count, char **arguments) {
+    enum board board = board_of(count, arguments, GOOD);
+    struct thagaduvin_sheet_answer sheet = {0};
+    struct thagaduvin_row_answer row = {0};
+    if (board == DAMAGED) put_pointer(memory, 0x36, 0x120062);
+    if (board == REFUSED) settings.top_first = 1;
+
+    uint8_t status = thagaduvin_sheet_of(&settings, &sheet);
+    if (status != 0) return REFUSAL(status, sheet);
+    printf("lines for rows: %u\n", sheet.lines);
+    int bad = alone(&row);
+    if (!bad) print("alone", &row);
+    bad |= in_turn(&row);
+    if (!bad) print("in turn", &row);
+    return bad;
 }

@@ -1,20 +1,18 @@
-/* A damaged list mended step by step, then drawn: the second row's code pointer leads outside memory, and the pointer to the row after it
- * too. Each step sets one pointer to 0 and tells which; the last one finds a list that is drawn to its end.
+/* A damaged list mended step by step, then drawn: the second row's code pointer leads outside memory, and the pointer to
+ * the row after it too. Each step sets one pointer to 0 and tells which; the last one finds a list that is drawn to its
+ * end.
  *
- *     rt staticlib thagaduvin && rt staticlib thagaduvin_mend
- *     cc -O2 -Iinclude examples/mend.c target/staticlib/libthagaduvin_mend.a target/staticlib/libthagaduvin.a -o target/mend_example
- *     target/mend_example */
-#include <stdio.h>
-#include "thagaduvin.h"
-
-/* the words at a byte address */
-#define AT(a) [(a) / 2]
+ *     ./build library
+ *     cc -O2 -Iinclude examples/mend.c target/lib/libthagaduvin.a -o target/mend_example && target/mend_example
+ *
+ * `target/mend_example good`: a good list, in which nothing is changed. `target/mend_example refused`: the main block is
+ * outside memory, which no step mends. */
+#include "board.h"
 
 enum { WORDS = 64, COLUMNS = 4 };
 
-static uint32_t settings[THAGADUVIN_SETTINGS] = {
-    [THAGADUVIN_LINEAR] = 1, [THAGADUVIN_FLAG] = 0x8080, [THAGADUVIN_TOP_SECOND] = 0x10, [THAGADUVIN_VAL] = 3, [THAGADUVIN_VTOT] = 3,
-    [THAGADUVIN_HSD] = 1,    [THAGADUVIN_HTC] = 7,       [THAGADUVIN_HTD] = 1 + COLUMNS,
+static struct thagaduvin_settings settings = {
+    .linear = 1, .flag = 0x8080, .top_second = 0x10, .val = 3, .vtot = 3, .hsd = 1, .htc = 7, .htd = 1 + COLUMNS,
 };
 static uint16_t memory[WORDS] = {
     AT(0x10) = 0, 0x20, 0, 0x2E, 0, 0, 0,                /* main block: rows of one line, filled with dots */
@@ -22,30 +20,44 @@ static uint16_t memory[WORDS] = {
     AT(0x30) = 0, 0x4000, 1, 0x12, 0x62, 0, 0, 0x404,    /* row 1: its link and its codes lead nowhere */
     AT(0x60) = 0x5241, 0x494E,                           /* RAIN */
 };
+static uint32_t cells[THAGADUVIN_CELLS], list[THAGADUVIN_LIST];
 
 /* Draws the screen from latch 0. */
-static uint8_t draw(void) {
-    static uint32_t list[THAGADUVIN_LIST];
-    uint32_t state[THAGADUVIN_STATE], cells[THAGADUVIN_CELLS], began[THAGADUVIN_START_ANSWER], row[THAGADUVIN_ROW_ANSWER];
-    uint8_t status = thagaduvin_start(settings, THAGADUVIN_SETTINGS, memory, WORDS, 0, state, THAGADUVIN_STATE, list, THAGADUVIN_LIST,
-                                      began, THAGADUVIN_START_ANSWER);
-    while (status == 0 && state[THAGADUVIN_LEFT] != 0) {
-        status = thagaduvin_row(settings, THAGADUVIN_SETTINGS, memory, WORDS, state, THAGADUVIN_STATE, cells, THAGADUVIN_CELLS, list,
-                                THAGADUVIN_LIST, row, THAGADUVIN_ROW_ANSWER);
-        for (int x = 0; status == 0 && x < COLUMNS; x++) putchar((int)(cells[x] & 0x7F));
-        if (status == 0) putchar('\n');
-        else printf("refused %u row %u at %06X\n", status, row[THAGADUVIN_ANSWER_ROW], row[THAGADUVIN_ANSWER_ADDRESS]);
+static int draw(void) {
+    struct thagaduvin_state state;
+    struct thagaduvin_start_answer began = {0};
+    struct thagaduvin_row_answer row = {0};
+    uint8_t status = thagaduvin_start_of(&settings, memory, WORDS, 0, &state, &list, &began);
+    if (status != 0) return REFUSAL(status, began);
+    while (state.left != 0) {
+        status = thagaduvin_row_of(&settings, memory, WORDS, &state, &cells, &list, &row);
+        if (status != 0) return REFUSAL(status, row);
+        print_codes(&cells, COLUMNS);
+        putchar('\n');
     }
-    return status;
+    return 0;
 }
 
-int main(void) {
-    uint32_t answer[THAGADUVIN_MEND_ANSWER];
+/* Mends the list. Each step that changes a pointer leaves fewer words that are not 0, so this ends. */
+static int mend(void) {
+    struct thagaduvin_mend_answer step = {0};
     uint8_t status;
-    draw();
-    while ((status = thagaduvin_mend(settings, THAGADUVIN_SETTINGS, memory, WORDS, 0, answer, THAGADUVIN_MEND_ANSWER)) == 0 &&
-           answer[THAGADUVIN_CHANGED])
-        printf("%06X: %04X %04X becomes 0, for refusal %u\n", answer[THAGADUVIN_CHANGED_ADDRESS], answer[THAGADUVIN_CHANGED_FIRST],
-               answer[THAGADUVIN_CHANGED_SECOND], answer[THAGADUVIN_CHANGED_NUMBER]);
-    return status == 0 ? draw() : status;
+    while ((status = thagaduvin_mend_of(&settings, memory, WORDS, 0, &step)) == 0 && step.changed)
+        printf("%06X: %04X %04X becomes 0, for refusal %u: %s\n", step.changed_address, step.changed_first, step.changed_second,
+               step.changed_number, words_of((uint8_t)step.changed_number));
+    return status == 0 ? 0 : REFUSAL(status, step);
+}
+
+int main(int count, char **arguments) {
+    enum board board = board_of(count, arguments, DAMAGED);
+    if (board == GOOD) {
+        put_pointer(memory, 0x30, 0x20);
+        put_pointer(memory, 0x36, 0x62);
+        put(memory, 0x3E, 0x202);
+    }
+    if (board == REFUSED) settings.top_second = 0x76;
+
+    draw(); /* as it is, up to its refusal */
+    if (mend()) return EXIT_FAILURE;
+    return draw();
 }

@@ -88,7 +88,7 @@ fn mark_of(role: Role) -> u8 {
 }
 
 /// Puts the page of a pointer's first word into its low byte. Gives 1 if that changes the word.
-fn turn(word: &mut u16) -> u32 {
+pub fn turn(word: &mut u16) -> u32 {
     let [high, _] = word.to_be_bytes();
     let turned = u16::from(high & 0x7F);
     u32::from(std::mem::replace(word, turned) != turned)

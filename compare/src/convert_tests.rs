@@ -448,8 +448,15 @@ fn random_scripts() {
         scripts += 1;
         assert_eq!(script::run(&out), script::drawn_below(&bytes));
         assert!(output(&out).starts_with(b"refused 26 "));
-        let records = out.len() - 1 - 2 - 12 * 4;
-        assert!(records.is_multiple_of(6));
+        let before = script::parse(&bytes).expect("it was converted").registers;
+        let after = script::parse(&out).expect("it is a script").registers;
+        for (register, (old, new)) in before.into_iter().zip(after).enumerate() {
+            match register {
+                // The first words of soft tops, TOP and TOW.
+                0x04 | 0x06 | 0x09 | 0x0B => assert_eq!(new, old >> 8 & 0x7F),
+                _ => assert_eq!(new, old),
+            }
+        }
     }
     assert!(scripts > 500, "{scripts}");
 }

@@ -115,6 +115,20 @@ fn turned(set: &mut Set) {
             .write(0x106, &[0x7FFF, 0x9000, 0x7FFF, 0x9000])
             .done();
     });
+    set.add("registers-are-kept-soft-tops-turned", Ok(0), |s| {
+        // The soft tops do not count, and the list that one leads to is not followed; bits past a field stay.
+        s.register(0x00, 0x1234)
+            .register(0x04, 0x80FF)
+            .register(0x05, 0x0180)
+            .register(0x06, 0x7F55)
+            .register(0x07, 0x0001)
+            .register(0x10, 0x1008)
+            .register(0x12, 0xF002)
+            .register(0x15, 0xFFFF)
+            .row(0x100, 0, &[])
+            .write(0x180, &[0x80FF, 0x0100])
+            .done();
+    });
     set.add("words-read-twice-as-no-pointer", Ok(0), |s| {
         // Codes from the word that counts segments.
         s.row(0x100, 0, &[(0x104, 0, 2, 2)]).done();

@@ -1147,12 +1147,10 @@ fn case_of(rng: &mut Rng, frame: Frame) -> Case {
     }
 }
 
-/// The records of a script, without a draw and without registers that are 0.
-pub fn records(settings: &Settings, memory: &[u16]) -> Vec<Vec<u8>> {
-    let mut all = script::records(settings, memory);
-    all.retain(|record| !matches!(record[..], [1, _, 0, 0]));
-    all
-}
+/// Registers without a meaning to the draw program.
+const IGNORED: [u8; 13] = [
+    0x00, 0x01, 0x02, 0x03, 0x04, 0x05, 0x06, 0x07, 0x0D, 0x0E, 0x0F, 0x10, 0x15,
+];
 
 /// A random script, well formed, of a frame with any number of faults that a mending can mend.
 pub fn damaged_script(rng: &mut Rng, shape: &Shape) -> Vec<u8> {
@@ -1163,11 +1161,18 @@ pub fn damaged_script(rng: &mut Rng, shape: &Shape) -> Vec<u8> {
 /// A random script, well formed, of a segmented frame.
 pub fn segmented_script(rng: &mut Rng, shape: &Shape) -> Vec<u8> {
     let frame = segmented_frame(rng, shape);
-    well_formed(&frame)
+    let mut bytes = Vec::new();
+    for register in IGNORED {
+        if rng.once_in(3) {
+            bytes.extend([1, register, rng.word() as u8, rng.word() as u8]);
+        }
+    }
+    bytes.extend(well_formed(&frame));
+    bytes
 }
 
 fn well_formed(frame: &Frame) -> Vec<u8> {
-    let mut bytes = records(&frame.settings, &frame.image.memory).concat();
+    let mut bytes = script::records(&frame.settings, &frame.image.memory).concat();
     bytes.push(0);
     bytes
 }
@@ -1186,7 +1191,7 @@ pub fn script_of(rng: &mut Rng, shape: &Shape) -> Vec<u8> {
             ..*shape
         },
     );
-    let mut all = records(&frame.settings, &frame.image.memory);
+    let mut all = script::records(&frame.settings, &frame.image.memory);
     if rng.once_in(2) {
         // Any order gives the same.
         for n in (1..all.len()).rev() {
@@ -1196,7 +1201,7 @@ pub fn script_of(rng: &mut Rng, shape: &Shape) -> Vec<u8> {
     if rng.once_in(3) {
         // Registers without a meaning here, bits that are ignored, records that a later one
         // replaces.
-        let register = rng.pick(&[0x00, 0x01, 0x04, 0x07, 0x0D, 0x0F, 0x10, 0x15]);
+        let register = rng.pick(&IGNORED);
         all.insert(
             rng.below(all.len() + 1),
             vec![1, register, rng.word() as u8, 0x55],

@@ -9,6 +9,9 @@ use std::io::{self, Read, Write};
 /// Words of memory in the draw program.
 pub const MEMORY: usize = 16_384;
 
+/// Registers that a script can set, 00 to 18.
+pub const REGISTERS: usize = 0x19;
+
 /// Settings with every number 0 and every switch off.
 pub const UNSET: Settings = Settings {
     linear: false,
@@ -32,12 +35,14 @@ pub const UNSET: Settings = Settings {
 /// What a script sets up.
 pub struct Script {
     pub settings: Settings,
+    pub registers: [u16; REGISTERS],
     pub memory: Vec<u16>,
 }
 
 /// Reads a script up to its draw. A refused script gives the offset to print.
 pub fn parse(input: &[u8]) -> Result<Script, usize> {
     let mut settings = UNSET;
+    let mut registers = [0; REGISTERS];
     let mut memory = vec![0; MEMORY];
     let mut at = 0;
     loop {
@@ -45,7 +50,13 @@ pub fn parse(input: &[u8]) -> Result<Script, usize> {
             return Err(input.len());
         };
         let size = match kind {
-            0 => return Ok(Script { settings, memory }),
+            0 => {
+                return Ok(Script {
+                    settings,
+                    registers,
+                    memory,
+                })
+            }
             1 => 3,
             2 => 5,
             3 => 1,
@@ -56,7 +67,15 @@ pub fn parse(input: &[u8]) -> Result<Script, usize> {
         };
         let accepted = match *body {
             [register, high, low] => {
-                set_register(&mut settings, register, u16::from_be_bytes([high, low]))
+                let value = u16::from_be_bytes([high, low]);
+                set_register(&mut settings, register, value);
+                match registers.get_mut(usize::from(register)) {
+                    Some(place) => {
+                        *place = value;
+                        true
+                    }
+                    None => false,
+                }
             }
             [a2, a1, a0, high, low] => {
                 let address = u32::from_be_bytes([0, a2, a1, a0]);
@@ -78,7 +97,7 @@ pub fn parse(input: &[u8]) -> Result<Script, usize> {
     }
 }
 
-fn set_register(settings: &mut Settings, register: u8, value: u16) -> bool {
+fn set_register(settings: &mut Settings, register: u8, value: u16) {
     match register {
         0x08 => settings.flag = value,
         0x09 => settings.top[0] = value,
@@ -95,10 +114,8 @@ fn set_register(settings: &mut Settings, register: u8, value: u16) -> bool {
         0x16 => settings.hsd = value & 0x1FF,
         0x17 => settings.htc = value & 0x3FF,
         0x18 => settings.htd = value & 0x3FF,
-        0x19.. => return false,
         _ => {}
     }
-    true
 }
 
 fn set_switches(settings: &mut Settings, switches: u8) -> bool {
@@ -114,36 +131,43 @@ fn set_switches(settings: &mut Settings, switches: u8) -> bool {
     true
 }
 
-/// The records of a script for settings in register range and memory, without a draw: switches, registers, then the words
-/// that are not 0.
-pub fn records(settings: &Settings, memory: &[u16]) -> Vec<Vec<u8>> {
+/// The switches of settings.
+fn switches(settings: &Settings) -> u8 {
     let interlace = match settings.interlace {
         Interlace::None => 0,
         Interlace::RepeatField => 1,
         Interlace::Video => 2,
     };
-    let switches = u8::from(settings.linear)
+    u8::from(settings.linear)
         | u8::from(settings.display_hidden) << 1
         | interlace << 2
-        | u8::from(settings.cursor) << 4;
-    let registers = [
-        (0x08, settings.flag),
-        (0x09, settings.top[0]),
-        (0x0A, settings.top[1]),
-        (0x0B, settings.tow[0]),
-        (0x0C, settings.tow[1]),
-        (0x11, settings.vsd << 6 | settings.vsw),
-        (0x12, settings.val),
-        (0x13, settings.vtot),
-        (0x14, settings.hsync),
-        (0x16, settings.hsd),
-        (0x17, settings.htc),
-        (0x18, settings.htd),
-    ];
+        | u8::from(settings.cursor) << 4
+}
+
+/// The records of a script for settings in register range and memory, without a draw.
+pub fn records(settings: &Settings, memory: &[u16]) -> Vec<Vec<u8>> {
+    let mut registers = [0; REGISTERS];
+    registers[0x08] = settings.flag;
+    registers[0x09..0x0B].copy_from_slice(&settings.top);
+    registers[0x0B..0x0D].copy_from_slice(&settings.tow);
+    registers[0x11] = settings.vsd << 6 | settings.vsw;
+    registers[0x12] = settings.val;
+    registers[0x13] = settings.vtot;
+    registers[0x14] = settings.hsync;
+    registers[0x16] = settings.hsd;
+    registers[0x17] = settings.htc;
+    registers[0x18] = settings.htd;
+    written(switches(settings), &registers, memory)
+}
+
+/// The records of a script, without a draw: switches, the registers that are not 0, then the words that are not 0.
+fn written(switches: u8, registers: &[u16], memory: &[u16]) -> Vec<Vec<u8>> {
     let mut all = vec![vec![3, switches]];
-    for (register, value) in registers {
-        let [high, low] = value.to_be_bytes();
-        all.push(vec![1, register, high, low]);
+    for (register, &value) in registers.iter().enumerate() {
+        if value != 0 {
+            let [high, low] = value.to_be_bytes();
+            all.push(vec![1, register as u8, high, low]);
+        }
     }
     for (index, &word) in memory.iter().enumerate() {
         if word != 0 {
@@ -194,13 +218,22 @@ fn output(input: &[u8], before: impl FnOnce(&mut Script, &mut Vec<u8>)) -> Vec<u
     })
 }
 
-/// The whole output of the converting program for a script: the script of the same screen with linear memory, or a line that
-/// says why there is none.
+/// The whole output of the converting program for a script: the script of the same screen with linear memory and every register
+/// kept, the soft tops turned; or a line that says why there is none.
 pub fn converted(input: &[u8]) -> Vec<u8> {
     unless_refused(input, |script, out| {
-        let Script { settings, memory } = script;
+        let Script {
+            settings,
+            registers,
+            memory,
+        } = script;
         convert::convert(settings, memory, &mut [0; MEMORY], 0)?;
-        out.extend(records(settings, memory).concat());
+        for soft in [0x04, 0x06] {
+            convert::turn(&mut registers[soft]);
+        }
+        registers[0x09] = settings.top[0];
+        registers[0x0B] = settings.tow[0];
+        out.extend(written(switches(settings), registers, memory).concat());
         out.push(0);
         Ok(())
     })

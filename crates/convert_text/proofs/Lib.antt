@@ -1,6 +1,3 @@
-pub mod PieceLaws
-pub mod RecordLaws
-pub mod Again
-pub mod Scripts
+pub mod Turned
 pub mod Converted
 pub mod Calls

@@ -4,24 +4,27 @@ use mathlib.Core.List.{List}
 use lib.ListN.{length}
 use Rattle.lines.specs.Lines.{refusalLine, scriptLine}
 use Rattle.script.specs.Script.{Outcome, drawn, refusedAt, script}
+use Rattle.image.specs.Registers.{registersOf}
+use Rattle.image.specs.Image.{imageOf}
+use Rattle.image.specs.Written.{written}
 use Rattle.converter.specs.declared.ConvertAnswer.{ConvertAnswer}
 use Rattle.converter.specs.declared.ConvertAnswer.the-variants.{Accepted, Refused}
 use Rattle.converter.specs.Converter.{Called, convertCall}
-use Rattle.convert_text.specs.Written.{written}
+use Rattle.convert_text.specs.Registers.{turnedRegisters}
 
--- the script of what a conversion gives, or the line of its refusal
-abbrev pub answerText : ConvertAnswer → List ℕ → List ℕ
-answerText (Accepted c) m = written (c .settings) m
-answerText (Refused r) m = refusalLine r
+-- the script of what a conversion gives, with the registers of the script before, turned; or the line of its refusal
+abbrev pub answerText : (registers : List ℕ) → ConvertAnswer → List ℕ → List ℕ
+answerText rs (Accepted c) m = written (imageOf (c .settings) (turnedRegisters rs) m)
+answerText rs (Refused r) m = refusalLine r
 
-unfoldable pub calledText : Called → List ℕ
-calledText c = answerText (c .answer) (c .memory)
+unfoldable pub calledText : (registers : List ℕ) → Called → List ℕ
+calledText rs c = answerText rs (c .answer) (c .memory)
 
 -- a script that draws is converted for its first frame, from latch 0, with a mark for each word; one that is refused prints its line
-abbrev pub outcomeText : Outcome → List ℕ
-outcomeText (drawn σ m) = calledText (convertCall 0 σ m (length m))
-outcomeText (refusedAt n) = scriptLine n
+abbrev pub outcomeText : (registers : List ℕ) → Outcome → List ℕ
+outcomeText rs (drawn σ m) = calledText rs (convertCall 0 σ m (length m))
+outcomeText rs (refusedAt n) = scriptLine n
 
 -- the text of a script's bytes
 unfoldable pub output : List ℕ → List ℕ
-output bytes = outcomeText (script bytes)
+output bytes = outcomeText (registersOf bytes) (script bytes)

@@ -1,4 +1,3 @@
-pub mod Written
-pub mod Ranges
+pub mod Registers
 pub mod ConvertText
 pub mod ToCome

@@ -24,7 +24,7 @@ every-also f (also {x = a} h hs) = also (f a h) (every-also f hs)
 
 -- ---- writes to other words ----
 
-written-length : (m : List ℕ) (ws : List Write) → length (written m ws) ≡ length m
+pub written-length : (m : List ℕ) (ws : List Write) → length (written m ws) ≡ length m
 unfolding written
 written-length m [] = refl
 written-length m (w ∷ ws) = written-length (set m (w .address / 2) (w .word)) ws ∙ length-set m (w .address / 2) (w .word)
@@ -34,7 +34,7 @@ unfolding found
 found-length zero m ws = written-length m (ws 0)
 found-length (suc n) m ws = found-length n (written m (ws 0)) (λ i. ws (suc i)) ∙ written-length m (ws 0)
 
-written-other : (a : ℕ) (m : List ℕ) (ws : List Write) → ((w : Write) → w ∈ ws → a / 2 ≡ w .address / 2 → ⊥)
+pub written-other : (a : ℕ) (m : List ℕ) (ws : List Write) → ((w : Write) → w ∈ ws → a / 2 ≡ w .address / 2 → ⊥)
     → getD (written m ws) (a / 2) 0 ≡ getD m (a / 2) 0
 unfolding written
 written-other a m [] h = refl

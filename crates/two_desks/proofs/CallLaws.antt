@@ -65,7 +65,7 @@ module _ (m₁ m₂ : List ℕ) (len : length m₁ ≡ length m₂) where
       (λ h. ap₂ (λ o l. startWith (started o) l) (read-outcome m₁ m₂ len (startFrom latch σ) h 0) (list-same (startFrom latch σ) list h))
       (eqb (length list) 12000)
 
-  listed-same : (σ : Settings) (s : State) (buffer list : List ℕ) → All (SameWord m₁ m₂) (sized buffer list (wordsRead m₁ (Rows.row σ s)))
+  pub listed-same : (σ : Settings) (s : State) (buffer list : List ℕ) → All (SameWord m₁ m₂) (sized buffer list (wordsRead m₁ (Rows.row σ s)))
       → rowListed σ m₁ s buffer list ≡ rowListed σ m₂ s buffer list
   unfolding rowListed
   listed-same σ s buffer list =

@@ -1,3 +1,4 @@
 pub mod CallLaws
 pub mod Apart
 pub mod Example
+pub mod Again

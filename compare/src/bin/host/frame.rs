@@ -82,7 +82,7 @@ impl Frame {
 
     /// The frame as a script, where one can say it: with so much memory and such settings.
     fn script(&self) -> Option<Vec<u8>> {
-        let mut bytes = generate::records(&self.named, self.memory()).concat();
+        let mut bytes = script::records(&self.named, self.memory()).concat();
         bytes.push(0);
         let said = script::parse(&bytes).ok()?;
         (said.settings == self.named && said.memory == self.memory()).then_some(bytes)

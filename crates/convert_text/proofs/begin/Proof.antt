@@ -5,7 +5,7 @@ use Rattle.convert_text.proofs.begin.Statement.{statement}
 use Rattle.convert_text.proofs.begin.Tie as tie
 
 returns : tie.Need-returns
-returns c = rw (c .before .before .before .script .given .1) (c .begin-converted .ensures)
+returns c = rw (c .before .before .before .before .script .given .1) (c .begin-converted .ensures)
 
 returns-2 : tie.Need-returns-2
 unfolding toCome

@@ -8,9 +8,11 @@ use Rattle.mend_text.proofs.change_line.Tie as tie
 returns : tie.Need-returns
 unfolding changeLine
 returns c =
-    let at-put-number = c .before .before in let at-put-hex3 = at-put-number .before .before .before .before in
+    let at-put-number = c .before .before in
+    let at-put-hex3 = at-put-number .before .before .before .before in
     let at-put-hex2 = at-put-hex3 .before .before .before .before in
-    let at-put-hex = at-put-hex2 .before .before .before .before in let at-place-address = at-put-hex .before in
+    let at-put-hex = at-put-hex2 .before .before .before .before in
+    let at-place-address = at-put-hex .before in
     let e = c .put-end .ensures in
     (e .0, e .1, e .2 ∙ rw (at-put-number .put-number .ensures .1, at-put-hex3 .put-hex3 .ensures .1, at-put-hex2 .put-hex2 .ensures .1, at-put-hex .put-hex .ensures .1, at-place-address .place-address .ensures))
 

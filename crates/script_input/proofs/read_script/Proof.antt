@@ -1,30 +1,10 @@
--- The loop ends, since it counts its turns.
-use Prim.Native.Nat.{_-_}
+-- What is read with registers that are 0 is read without looking at them.
 use borrow.Author.Needs.{needs}
 use Rattle.script_input.proofs.read_script.Statement.{statement}
 use Rattle.script_input.proofs.read_script.Tie as tie
 
-abbrev Inv-loop : tie.InvT-loop
-Inv-loop mem₀ script₀ turns₀ mem script turns = Unit {0}
-
-abbrev μ-loop : tie.MeasureT-loop
-μ-loop mem₀ script₀ turns₀ mem script turns = 1099511627776 - turns
+returns : tie.Need-returns
+returns c = record { registers = _; input = c .read-image .ensures }
 
 pub read-script-spec : {M : Type 1} → statement M
-read-script-spec =
-    tie.close
-    (tie.spec
-    Inv-loop
-    μ-loop
-    (λ c κs. search needs)
-    (λ c. search needs)
-    (λ c κs. search needs)
-    (λ c. search needs)
-    (λ c. search needs)
-    (λ c. search needs)
-    (λ c. search needs)
-    (λ c. search needs)
-    (λ c. search needs)
-    (λ c. search needs)
-    (λ c. search needs)
-    (λ c. search needs))
+read-script-spec = tie.close (tie.spec (λ c κs. search needs) returns)

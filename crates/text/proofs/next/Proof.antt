@@ -25,7 +25,7 @@ returns-3 c =
 
 returns-4 : tie.Need-returns-4
 unfolding toCome
-returns-4 c = search needs
+returns-4 c = rw (c .enum-told .given .1)
 
 pub next-spec : {M : Type 1} → statement M
 next-spec =

@@ -9,38 +9,40 @@ use borrow.Author.Needs.{needs}
 use Rattle.text.proofs.next_row.Statement.{statement}
 use Rattle.text.proofs.next_row.Tie as tie
 
+-- after the step: the function's start, and the words of memory
+abbrev start : tie.After-step → tie.Start
+start s = s .before .before .before
+
+words : (s : tie.After-step) → Words (start s .args .mem .now)
+words s i = s .before .before .shared-slice-known .given i .fits
+
 returns : tie.Need-returns
 returns c =
-    let at-row = c .before .before .before .before in let at-step = at-row .before .before .before in
-    let at-shared-slice-known = at-step .before .before in let start = at-shared-slice-known .before in
-    let a = start .args in
-    let words : Words (a .mem .now) = λ i. at-shared-slice-known .shared-slice-known .given i .fits in
-    let x = at-row .row .given .1 in
+    let drawn = c .before .before .before .before in
+    let at-step = drawn .before .before .before in
+    let a = start at-step .args in
+    let x = drawn .row .given .1 in
     let s = at-step .step .ensures in
     with-line (a .mem .now) (Rows (a .settings) (a .progress)) _ _ _ (c .row-lines .ensures)
-    (row-text (a .settings) (a .mem .now) words (a .progress) _ refl (rw x at (s .1)))
+    (row-text (a .settings) (a .mem .now) (words at-step) (a .progress) _ refl (rw x at (s .1)))
     (omega (arith, rw x at (s .0)))
 
 returns-2 : tie.Need-returns-2
 returns-2 c =
-    let at-rows = c .before .before .before in let at-step = at-rows .before .before .before in
-    let at-shared-slice-known = at-step .before .before in let start = at-shared-slice-known .before in
-    let a = start .args in
-    let words : Words (a .mem .now) = λ i. at-shared-slice-known .shared-slice-known .given i .fits in
-    let s = at-step .step .ensures in
+    let ended = c .before .before .before in
+    let at-step = ended .before .before .before in
+    let a = start at-step .args in
     last-line (a .mem .now) (Rows (a .settings) (a .progress)) _ _ (c .end-line .ensures)
-    (end-text (a .settings) (a .mem .now) words (a .progress) _ refl (rw (at-rows .rows .given .1) at (s .1)))
+    (end-text (a .settings) (a .mem .now) (words at-step) (a .progress) _ refl (rw (ended .rows .given .1) at (at-step .step .ensures .1)))
     (omega arith)
 
 returns-3 : tie.Need-returns-3
 returns-3 c =
-    let at-refusal = c .before .before .before in let at-step = at-refusal .before .before .before in
-    let at-shared-slice-known = at-step .before .before in let start = at-shared-slice-known .before in
-    let a = start .args in
-    let words : Words (a .mem .now) = λ i. at-shared-slice-known .shared-slice-known .given i .fits in
-    let s = at-step .step .ensures in
+    let refused = c .before .before .before in
+    let at-step = refused .before .before .before in
+    let a = start at-step .args in
     last-line (a .mem .now) (Rows (a .settings) (a .progress)) _ _ (c .refusal-line .ensures)
-    (refusal-text (a .settings) (a .mem .now) words (a .progress) _ refl (rw (at-refusal .refusal .given .1) at (s .1)))
+    (refusal-text (a .settings) (a .mem .now) (words at-step) (a .progress) _ refl (rw (refused .refusal .given .1) at (at-step .step .ensures .1)))
     (omega arith)
 
 pub next-row-spec : {M : Type 1} → statement M

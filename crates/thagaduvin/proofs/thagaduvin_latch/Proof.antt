@@ -12,10 +12,17 @@ returns c = rw (ne-eqb _ _ (c .if1 .taken))
 returns-2 : tie.Need-returns-2
 unfolding hostLatch
 returns-2 c =
-    let at-write-number = c .before .before in let at-handed-on = at-write-number .before .before in
-    let at-s = at-handed-on .before .before in let at-state-in = at-s .before .before in
-    let at-if1 = at-state-in .before in
-    rw (eq-eqb _ _ (at-if1 .if1 .left), ← at-state-in .state-in .ensures, at-s .s .given .1, at-write-number .write-number .ensures, at-handed-on .handed-on .ensures .0)
+    let at-handed-on = c .before .before .before .before in
+    let fit = at-handed-on .before .before in
+    let at-state-in = fit .before .before in
+    let sized = at-state-in .before in
+    rw (
+      eq-eqb _ _ (sized .if1 .left),
+      ← at-state-in .state-in .ensures,
+      fit .s .given .1,
+      c .before .before .write-number .ensures,
+      at-handed-on .handed-on .ensures .0,
+    )
 
 returns-3 : tie.Need-returns-3
 unfolding hostLatch

@@ -10,9 +10,10 @@ use Rattle.thagaduvin.proofs.thagaduvin_row.Tie as tie
 
 next-row-requires : tie.Need-next-row-requires
 next-row-requires c κs =
-    let at-t = c .before .before .before .before .before in let at-state-in = at-t .before .before in
-    let at-if1 = at-state-in .before .before .before .before .before .before in
-    (state-size _ _ (sym (at-state-in .state-in .ensures) ∙ at-t .t .given .1), at-if1 .if1 .left)
+    let state-fits = c .before .before .before .before .before in
+    let at-state-in = state-fits .before .before in
+    let sized = at-state-in .before .before .before .before .before .before in
+    (state-size _ _ (sym (at-state-in .state-in .ensures) ∙ state-fits .t .given .1), sized .if1 .left)
 
 returns : tie.Need-returns
 unfolding hostRow
@@ -21,28 +22,33 @@ returns c = rw (ne-eqb _ _ (c .if1 .taken))
 returns-2 : tie.Need-returns-2
 unfolding hostRow
 returns-2 c =
-    let at-next-row = c .before .before .before .before .before .before .before .before in
-    let at-t = at-next-row .before .before .before .before .before .before in let at-state-in = at-t .before .before in
-    let at-s = at-state-in .before .before .before in let at-settings-in = at-s .before .before in
-    let at-if1 = at-settings-in .before in
+    let cells-kept = c .before .before .before .before in
+    let at-next-row = cells-kept .before .before .before .before in
+    let state-fits = at-next-row .before .before .before .before .before .before in
+    let at-state-in = state-fits .before .before in
+    let settings-fit = at-state-in .before .before .before in
+    let at-settings-in = settings-fit .before .before in
+    let sized = at-settings-in .before in
     rw (
-      eq-eqb _ _ (at-if1 .if1 .left),
+      eq-eqb _ _ (sized .if1 .left),
       ← at-settings-in .settings-in .ensures,
-      at-s .s .given .1,
+      settings-fit .s .given .1,
       ← at-state-in .state-in .ensures,
-      at-t .t .given .1,
+      state-fits .t .given .1,
     )
     (at-next-row .next-row .ensures)
 
 returns-3 : tie.Need-returns-3
 unfolding hostRow
 returns-3 c =
-    let at-state-in = c .before .before in let at-s = at-state-in .before .before .before in
-    let at-settings-in = at-s .before .before in let at-if1 = at-settings-in .before in
+    let at-state-in = c .before .before in
+    let settings-fit = at-state-in .before .before .before in
+    let at-settings-in = settings-fit .before .before in
+    let sized = at-settings-in .before in
     rw (
-      eq-eqb _ _ (at-if1 .if1 .left),
+      eq-eqb _ _ (sized .if1 .left),
       ← at-settings-in .settings-in .ensures,
-      at-s .s .given .1,
+      settings-fit .s .given .1,
       ← at-state-in .state-in .ensures,
       c .enum-told .given .1,
     )

@@ -12,9 +12,11 @@ returns c = rw (ne-eqb _ _ (c .if1 .taken))
 returns-2 : tie.Need-returns-2
 unfolding hostSheet
 returns-2 c =
-    let at-sheet = c .before .before in let at-s = at-sheet .before .before .before in
-    let at-settings-in = at-s .before .before in let at-if1 = at-settings-in .before in
-    rw (eq-eqb _ _ (at-if1 .if1 .left), ← at-settings-in .settings-in .ensures, at-s .s .given .1) (at-sheet .sheet .ensures)
+    let at-sheet = c .before .before in
+    let fit = at-sheet .before .before .before in
+    let at-settings-in = fit .before .before in
+    let sized = at-settings-in .before in
+    rw (eq-eqb _ _ (sized .if1 .left), ← at-settings-in .settings-in .ensures, fit .s .given .1) (at-sheet .sheet .ensures)
 
 returns-3 : tie.Need-returns-3
 unfolding hostSheet

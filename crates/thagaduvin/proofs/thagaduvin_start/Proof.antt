@@ -17,9 +17,11 @@ returns-3 : tie.Need-returns-3
 unfolding hostStart
 returns-3 c =
     let at-start = c .before .before .before .before .before .before in
-    let at-s = at-start .before .before .before .before .before in let at-settings-in = at-s .before .before in
-    let at-if2 = at-settings-in .before in let at-if1 = at-if2 .before in
-    rw (eq-eqb _ _ (at-if1 .if1 .left), eq-eqb _ _ (at-if2 .if2 .left), ← at-settings-in .settings-in .ensures, at-s .s .given .1)
+    let fit = at-start .before .before .before .before .before in
+    let at-settings-in = fit .before .before in
+    let answer-sized = at-settings-in .before in
+    let state-sized = answer-sized .before in
+    rw (eq-eqb _ _ (state-sized .if1 .left), eq-eqb _ _ (answer-sized .if2 .left), ← at-settings-in .settings-in .ensures, fit .s .given .1)
     (at-start .start .ensures)
 
 returns-4 : tie.Need-returns-4

@@ -10,7 +10,7 @@ returns c = rw (c .enum-told .given .1)
 
 returns-2 : tie.Need-returns-2
 unfolding towAfter
-returns-2 c = search needs
+returns-2 c = rw (c .enum-told2 .given .1)
 
 pub clear-tow-spec : {M : Type 1} → statement M
 clear-tow-spec =

@@ -7,25 +7,26 @@ use Rattle.thagaduvin_mend.proofs.mend_into.Tie as tie
 
 returns : tie.Need-returns
 returns c =
-    let at-write = c .before .before in let at-enum-told = at-write .before .before .before in
-    let at-mend-step = at-enum-told .before .before .before .before in
-    let e = rw (at-enum-told .enum-told .given .1) at (at-mend-step .mend-step .ensures .0) in
-    rw (at-write .write .ensures) (ap (afterStep _ _) e)
+    let whole = c .before .before .before .before .before in
+    let at-mend-step = whole .before .before .before .before in
+    let e = rw (whole .enum-told .given .1) at (at-mend-step .mend-step .ensures .0) in
+    rw (c .before .before .write .ensures) (ap (afterStep _ _) e)
 
 returns-2 : tie.Need-returns-2
 returns-2 c =
-    let at-refuse = c .before .before in let at-r = at-refuse .before .before .before in
-    let at-mend-step = at-r .before .before .before .before in
-    let e = rw (at-r .r .given .1) at (at-mend-step .mend-step .ensures .0) in
+    let at-refuse = c .before .before in
+    let refused = at-refuse .before .before .before in
+    let at-mend-step = refused .before .before .before .before in
+    let e = rw (refused .r .given .1) at (at-mend-step .mend-step .ensures .0) in
     rw (at-refuse .refuse .ensures .0, at-refuse .refuse .ensures .1) (ap (afterStep _ _) e)
 
 returns-3 : tie.Need-returns-3
 returns-3 c =
-    let at-write-change = c .before .before in let at-clear-tow = at-write-change .before .before .before .before in
-    let at-change = at-clear-tow .before .before .before in
-    let at-mend-step = at-change .before .before .before .before in
-    let e = rw (at-change .change .given .1) at (at-mend-step .mend-step .ensures .0) in
-    rw (at-write-change .write-change .ensures, at-clear-tow .clear-tow .ensures) (ap (afterStep _ _) e)
+    let at-clear-tow = c .before .before .before .before .before .before in
+    let changed = at-clear-tow .before .before .before in
+    let at-mend-step = changed .before .before .before .before in
+    let e = rw (changed .change .given .1) at (at-mend-step .mend-step .ensures .0) in
+    rw (c .before .before .write-change .ensures, at-clear-tow .clear-tow .ensures) (ap (afterStep _ _) e)
 
 pub mend-into-spec : {M : Type 1} → statement M
 mend-into-spec =

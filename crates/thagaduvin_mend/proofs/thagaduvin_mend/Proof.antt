@@ -12,17 +12,19 @@ returns c = rw (ne-eqb _ _ (c .if1 .taken))
 
 mend-into-requires : tie.Need-mend-into-requires
 mend-into-requires c κs =
-    let at-s = c .before .before .before .before in let at-settings-in = at-s .before .before in
-    let at-if1 = at-settings-in .before .before in
-    (fit-length _ (rw (at-s .s .given .1) at (at-settings-in .settings-in .ensures)), at-if1 .if1 .left)
+    let fit = c .before .before .before .before in
+    let at-settings-in = fit .before .before in
+    let sized = at-settings-in .before .before in
+    (fit-length _ (rw (fit .s .given .1) at (at-settings-in .settings-in .ensures)), sized .if1 .left)
 
 returns-2 : tie.Need-returns-2
 unfolding hostMend
 returns-2 c =
     let at-mend-into = c .before .before .before .before .before .before in
-    let at-s = at-mend-into .before .before .before .before .before in let at-settings-in = at-s .before .before in
-    let at-if1 = at-settings-in .before .before in
-    rw (eq-eqb _ _ (at-if1 .if1 .left), ← at-settings-in .settings-in .ensures, at-s .s .given .1) (at-mend-into .mend-into .ensures)
+    let fit = at-mend-into .before .before .before .before .before in
+    let at-settings-in = fit .before .before in
+    let sized = at-settings-in .before .before in
+    rw (eq-eqb _ _ (sized .if1 .left), ← at-settings-in .settings-in .ensures, fit .s .given .1) (at-mend-into .mend-into .ensures)
 
 returns-3 : tie.Need-returns-3
 unfolding hostMend

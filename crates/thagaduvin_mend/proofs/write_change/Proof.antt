@@ -7,7 +7,9 @@ use Rattle.thagaduvin_mend.proofs.write_change.Tie as tie
 
 returns : tie.Need-returns
 unfolding changeNumbers
-returns c = c .before .before .write .ensures ∙ rw (c .before .before .before .before .before .before .before .before .place-address .ensures)
+returns c =
+    let at-write = c .before .before in
+    at-write .write .ensures ∙ rw (at-write .before .before .before .before .before .before .place-address .ensures)
 
 pub write-change-spec : {M : Type 1} → statement M
 write-change-spec =

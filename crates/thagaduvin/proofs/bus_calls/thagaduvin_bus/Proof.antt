@@ -21,12 +21,15 @@ returns-4 : tie.Need-returns-4
 unfolding hostBus
 returns-4 c =
     let at-write-report = c .before .before .before .before in
-    let at-count-row = at-write-report .before .before .before in let at-totals-at = at-count-row .before in
-    let at-if3 = at-totals-at .before .before in let at-if2 = at-if3 .before .before in let at-if1 = at-if2 .before in
+    let at-count-row = at-write-report .before .before .before in
+    let at-totals-at = at-count-row .before in
+    let last-fits = at-totals-at .before .before in
+    let answer-sized = last-fits .before .before in
+    let totals-sized = answer-sized .before in
     rw (
-      eq-eqb _ 7 (at-if1 .if1 .left),
-      eq-eqb _ 2 (at-if2 .if2 .left),
-      le-leb _ 1 (at-if3 .if3 .left),
+      eq-eqb _ 7 (totals-sized .if1 .left),
+      eq-eqb _ 2 (answer-sized .if2 .left),
+      le-leb _ 1 (last-fits .if3 .left),
       ← at-totals-at .totals-at .ensures,
       ← at-count-row .count-row .ensures,
     )

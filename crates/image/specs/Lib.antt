@@ -1,0 +1,6 @@
+pub mod Registers
+pub mod Image
+pub mod Feeding
+pub mod Ranges
+pub mod Written
+pub mod ToCome
