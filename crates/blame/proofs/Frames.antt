@@ -34,9 +34,9 @@ use Rattle.blame.specs.declared.Place.{Place}
 use Rattle.blame.specs.declared.Place.the-variants.{Register, Memory}
 use Rattle.blame.specs.declared.Verdict.{Verdict}
 use Rattle.blame.specs.declared.Verdict.the-variants.{Whole, Blamed, Refused}
-use Rattle.blame.specs.Blame.{leader, blamed, mendable, refusedRow, nextState, byRow, rowsWithin, rows, mainOf, byStart, verdict}
+use Rattle.blame.specs.Blame.{leader, blamed, mendable, asItIs, refusedRow, nextState, byRow, rowsWithin, rows, mainOf, byStart, verdict}
 use Rattle.blame.proofs.Comes.{as-comes, Comes, dones, bind, check-comes, check-then, if-comes, comes-given, comes-refused}
-use Rattle.blame.proofs.Standing.{Stands, pointer-address, pointer-words, stands, words-come}
+use Rattle.blame.proofs.Standing.{Stands, pointer-address, pointer-words, pointer-to, stands, words-come}
 use Rattle.blame.proofs.BlocksStand.{window-stands}
 use Rattle.blame.proofs.RowStands.{HeldAt, FieldsStand, LedTo, Ready, Mends, row-stands}
 
@@ -86,37 +86,45 @@ module _ (σ : Settings) (m : List ℕ) (b : Words m) (regs : Registers σ) wher
   abbrev MainStands : MainBlock → Type 0
   MainStands k = Passing σ × Stands m b (σ .linear) (k .rows) × (1 ≤ k .lines) × (k .lines ≤ 32)
 
-  settings-come : Comes m (λ _. Unit {0}) (λ _. Passing σ) (checkSettings σ)
+  -- .. and the numbers that it has
+  abbrev AsItIs : Fault → Type 0
+  AsItIs x = asItIs (x .number) ≡ true
+
+  settings-come : Comes m AsItIs (λ _. Passing σ) (checkSettings σ)
   unfolding checkSettings
   settings-come =
-      check-then m (λ _. Unit {0}) 2 nobody (good σ) (λ _. tt) λ _ g.
-      check-comes m (λ _. Unit {0}) 17 nobody (σ .linear) (λ _. tt) λ l. record { proper = g; straight = l }
+      check-then m AsItIs 2 nobody (good σ) (λ _. refl) λ _ g.
+      check-comes m AsItIs 17 nobody (σ .linear) (λ _. refl) λ l. record { proper = g; straight = l }
 
-  main-stands : Comes m (λ _. Unit {0}) MainStands (mainOf σ)
+  main-stands : Comes m AsItIs MainStands (mainOf σ)
   unfolding mainOf topBlock mainBlockAt mainBlock ahead
   main-stands =
       let p = registered (σ .linear) (σ .top) in
-      bind m (λ _. Unit {0}) settings-come λ _ g.
-      check-then m (λ _. Unit {0}) 6 nobody (not (null p)) (λ _. tt) λ _ _.
-      bind m (λ _. Unit {0}) {P = MainStands}
-      (bind m (λ _. Unit {0}) (as-comes m (λ _. Unit {0}) onePointer (words-come m b (σ .linear) (λ _. Unit {0}) 7 p (λ a. tt))) λ ws e.
+      bind m AsItIs settings-come λ _ g.
+      check-then m AsItIs 6 nobody (not (null p)) (λ _. refl) λ _ _.
+      bind m AsItIs {P = MainStands}
+      (bind m AsItIs (as-comes m AsItIs onePointer (words-come m b (σ .linear) AsItIs 7 p (λ a. refl))) λ ws e.
       dones (g, stands m b (σ .linear) (p .address) _ _ (pointer-address (σ .linear) 0 (σ .top .first) (σ .top .second) (regs .top)) (e 0 (lit< tt)) (e 1 (lit< tt)), omega arith, omega arith))
       λ k hk.
-      check-then m (λ _. Unit {0}) 14 nobody (not (enabled k && ofWindow k)) (λ _. tt) λ _ _. dones hk
+      check-then m AsItIs 14 nobody (not (enabled k && ofWindow k)) (λ _. refl) λ _ _. dones hk
 
-  -- what a start still refuses once its main block is read blames TOW, which is not null
+  pub main-numbers : {x : Fault} → run m (mainOf σ) ≡ refused x → asItIs (x .number) ≡ true
+  main-numbers e = comes-refused m AsItIs 0 main-stands e
+
+  -- what a start still refuses once its main block is read blames TOW, which is not null, and tells a register
   abbrev BlamesTow : Fault → Type 0
-  BlamesTow x = (mendable (x .number) ≡ true) × HeldAt σ m b Register
+  BlamesTow x = (mendable (x .number) ≡ true) × HeldAt σ m b Register × (x .from ≡ 0)
 
   window-starts : (latch : ℕ) (k : MainBlock) → MainStands k → Comes m BlamesTow (λ s. Ready σ m b Register (s .fields)) (windowStart latch σ k)
   unfolding windowStart firstWindow firstFields linesForRows
   window-starts latch k hk =
       let p = registered (σ .linear) (σ .tow) in
       let held : null p ≡ false → HeldAt σ m b Register = λ n e f. pointer-words (σ .linear) 0 (σ .tow .first) (σ .tow .second) n e f in
+      let told : null p ≡ false → p .from ≡ 0 = pointer-to (σ .linear) 0 (σ .tow .first) (σ .tow .second) (regs .tow) refl .1 in
       let o = ordered σ (hk .0 .proper) in
       bind m BlamesTow
       (window-stands m b (σ .linear) BlamesTow (HeldAt σ m b Register) 0 0 p (omega arith) (pointer-address (σ .linear) 0 (σ .tow .first) (σ .tow .second) (regs .tow))
-      (λ n. (λ a. (refl, held n), (refl, held n), held n)))
+      (λ n. (λ a. (refl, held n, told n), (refl, held n, told n), held n)))
       λ w hw.
       dones
       (record {
@@ -138,6 +146,10 @@ module _ (σ : Settings) (m : List ℕ) (b : Words m) (regs : Registers σ) wher
     unfolding startFrom mainOf
     start-refused e = sym (bind-bind 0 m (checkSettings σ) (λ _. topBlock (σ .linear) (σ .top)) (windowStart latch σ)) ∙ bind-refused 0 m (mainOf σ) _ e
 
+    pub tow-told : {n : ℕ} {k : MainBlock} {x : Fault} → run m (mainOf σ) ≡ given n k → run m (startFrom latch σ) ≡ refused x → x .from ≡ 0
+    tow-told {n} {k} e h =
+        comes-refused m BlamesTow n (window-starts latch k (comes-given m AsItIs 0 main-stands e)) (sym (start-of e) ∙ h) .2
+
     -- a verdict on a frame: as its rows', or a refusal of its start up to the main block
     pub data Fair : Verdict → Type 0 where
       judged : {v : Verdict} → Judged v → Fair v
@@ -155,4 +167,4 @@ module _ (σ : Settings) (m : List ℕ) (b : Words m) (regs : Registers σ) wher
 
         by-main : (o : Outcome MainBlock) → run m (mainOf σ) ≡ o → Fair (byStart σ m o (run m (startFrom latch σ)))
         by-main (refused x) e = as-it-is e
-        by-main (given n k) e = judged (by-window n n k (comes-given m (λ _. Unit {0}) 0 main-stands e) _ (sym (start-of e)))
+        by-main (given n k) e = judged (by-window n n k (comes-given m AsItIs 0 main-stands e) _ (sym (start-of e)))

@@ -42,7 +42,7 @@ to-from from a h k = by (eqb a 0) refl
     by true e = (rw h, λ f. let q : _≡_ {A = ℕ} 0 1 = cc in absurd (omega arith))
     by false e = (rw (h, k), λ _. refl)
 
-pointer-to : (linear : Bool) (from w v : ℕ) → v < 65536 → isAddress from ≡ true
+pub pointer-to : (linear : Bool) (from w v : ℕ) → v < 65536 → isAddress from ≡ true
     → (pointerInRange (pointer linear from w v) ≡ true) × (null (pointer linear from w v) ≡ false → pointer linear from w v .from ≡ from)
 unfolding pointer
 pointer-to true from w v h k = to-from from ((w % 256 * 65536 + v) / 2 * 2) (pointer-address true from w v h) k

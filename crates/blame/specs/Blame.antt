@@ -77,6 +77,10 @@ rows σ m led s = rowsWithin (s .fields .left) σ m led s
 unfoldable pub mainOf : Settings → Reading MainBlock
 mainOf σ = checkSettings σ >> topBlock (σ .linear) (σ .top)
 
+-- their numbers (`Frames.main-numbers`)
+abbrev pub asItIs : ℕ → Bool
+asItIs n = eqb n 2 || eqb n 6 || eqb n 7 || eqb n 14 || eqb n 17
+
 -- .. "are given as they are". What a start then still refuses, 7 and 8, is the first window's: TOW led to it.
 abbrev pub byStart : Settings → List ℕ → Outcome MainBlock → Outcome State → Verdict
 byStart σ m (refused x) o = Refused (refusal 0 x)

@@ -1,3 +1,3 @@
-pub mod ScriptLaws
 pub mod ReportLaws
 pub mod FrameBus
+pub mod Calls

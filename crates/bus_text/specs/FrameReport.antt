@@ -2,6 +2,7 @@
 use Prim.Native.Nat.{ℕ, _+_}
 use mathlib.Core.List.{List, [], _∷_, _++_}
 use mathlib.Core.Option.{Option, none, some}
+use lib.ListN.{getD}
 use Rattle.memory.specs.declared.Refusal.{Refusal}
 use Rattle.settings.specs.declared.Settings.{Settings}
 use Rattle.frame.specs.declared.BeginAnswer.{BeginAnswer}
@@ -15,8 +16,9 @@ use Rattle.bus.specs.declared.BusAnswer.the-variants.{Counted, Refused}
 use Rattle.bus.specs.Bus.{reported}
 use Rattle.bus.specs.Bus as Bus
 use Rattle.lines.specs.Lines.{refusalLine, scriptLine}
+use Rattle.script.specs.Script.{Outcome, drawn, refusedAt, script}
+use Rattle.image.specs.Registers.{registersOf}
 use Rattle.bus_text.specs.BusLines.{rowLine, totalLine, largestLine}
-use Rattle.bus_text.specs.BusScript.{Outcome, drawn, refusedAt}
 
 -- the screen that a program with one frame hands in: screens are counted from 0, as rows are
 abbrev pub oneScreen : ℕ
@@ -54,10 +56,19 @@ unfoldable pub rowsText : Option Refusal → Totals → List BusRow → List ℕ
 rowsText end t [] = lastLines end t
 rowsText end t (h ∷ hs) = byAnswer h (rowsText end (reported t h .totals) hs) (reported t h .answer)
 
--- the text of a frame, from latch 0, and of a script
+-- the text of a frame, from latch 0
 unfoldable pub frameText : ℕ → Settings → List ℕ → List ℕ
 frameText burst σ m = rowsText (frame 0 σ m .refusal) Bus.none (frameBus burst oneScreen 0 σ m)
 
-abbrev pub outcomeText : Outcome → List ℕ
-outcomeText (drawn σ burst m) = frameText burst σ m
-outcomeText (refusedAt n) = scriptLine n
+-- a script that draws reports its frame; one that is refused prints its line
+abbrev pub outcomeText : (burst : ℕ) → Outcome → List ℕ
+outcomeText burst (drawn σ m) = frameText burst σ m
+outcomeText burst (refusedAt n) = scriptLine n
+
+-- 003's summary: 10 DMA burst
+abbrev pub burstOf : (registers : List ℕ) → ℕ
+burstOf rs = getD rs 0x10 0
+
+-- the text of a script's bytes
+unfoldable pub output : List ℕ → List ℕ
+output bytes = outcomeText (burstOf (registersOf bytes)) (script bytes)

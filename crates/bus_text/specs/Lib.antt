@@ -1,4 +1,3 @@
-pub mod BusScript
 pub mod BusLines
 pub mod FrameReport
 pub mod ToCome

@@ -1,5 +1,4 @@
 // The text of a bus report, a few lines at a time: a line for each row of a frame, then the totals and the largest row.
-use crate::bus_script::BusStep;
 use bus::BusAnswer;
 use bus::BusRow;
 use bus::Reported;
@@ -8,16 +7,16 @@ use frame::BeginAnswer;
 use frame::Progress;
 use frame::StepAnswer;
 use memory::Refusal;
+use script::Step;
 use settings::Settings;
 ghost use mathlib.Core.Path.{_≡_};
 ghost use Prim.Native.Nat.{_+_, _<_};
-ghost use Rattle.bus_text.specs.BusScript.{fed, outcome};
+ghost use Rattle.script.specs.Feeding.{stepped, outcome};
 ghost use Rattle.bus_text.specs.FrameReport.{oneScreen, frameText, outcomeText};
 ghost use Rattle.bus_text.specs.ToCome.{toCome, Next, RowNext};
 ghost use Rattle.bus_text.specs.declared.Text.the-variants.{Rows};
 
 mod bus_lines; // the lines
-pub mod bus_script; // a script, with the burst register
 
 // The report of a frame in progress: `before` are the words that go with its next row and are not that row's own.
 pub struct Reporting {
@@ -42,17 +41,14 @@ pub enum TextLines {
     AtEnd,
 }
 
-// The text of a script, from where its bytes led; its input ends here.
-pub fn begin(script: BusStep, mem: &[u16]) -> Text
-    ensures { λ r. ⌜ toCome (now (mem .entry)) r ≡ outcomeText (outcome (fed script (now (mem .entry)))) ⌝ }
+// The text of a script, from where its bytes led and with its burst register; its input ends here.
+pub fn begin(script: Step, burst: u16, mem: &[u16]) -> Text
+    ensures { λ r. ⌜ toCome (now (mem .entry)) r ≡ outcomeText burst (outcome (stepped script (now (mem .entry)))) ⌝ }
 {
     match script {
-        BusStep::Draw { settings, burst } => begin_frame(settings, burst, mem),
-        BusStep::Refused(offset) => Text::NoScript(offset),
-        BusStep::More(s) => {
-            let at = s.script;
-            Text::NoScript(script::at_end(at))
-        }
+        Step::Draw(settings) => begin_frame(settings, burst, mem),
+        Step::Refused(offset) => Text::NoScript(offset),
+        Step::More(s) => Text::NoScript(script::at_end(s)),
     }
 }
 

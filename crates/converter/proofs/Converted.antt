@@ -17,16 +17,16 @@ use Rattle.settings.specs.declared.Interlace.the-variants.{Progressive, RepeatF
 use Rattle.settings.specs.declared.Edition.{Edition}
 use Rattle.settings.specs.declared.Edition.the-variants.{Am8052, Z8052}
 use Rattle.settings.specs.Good.{inRange, inOrder, fitsMode, fitsEdition, good}
-use Rattle.frame.specs.Frame.{frame}
+use Rattle.frame.specs.Frame.{Frame, frame}
 use Rattle.converter.specs.declared.Conversion.{Conversion}
 use Rattle.converter.specs.declared.ConvertAnswer.the-variants.{Accepted}
-use Rattle.converter.specs.Below.{frameRead, framePointers}
+use Rattle.converter.specs.Below.{frameBelow, frameRead, framePointers}
 use Rattle.converter.specs.Converter.{Followed, ended, stopped, follow, turnedFirst, turned, turnedMemory, turnedSettings, changes, registerChanges, Called, kept, convertBy, convertCall}
 use Rattle.converter.specs.Conversions.{isRead, Turns, Sixteen, AllTurn}
 use Rattle.converter.proofs.Rows.{segmented}
 use Rattle.converter.proofs.Walks.{turned-length, turned-word}
 use Rattle.converter.proofs.Below.{frame-below}
-use Rattle.converter.proofs.Frames.{Parts, parts, frames-same, frames-read}
+use Rattle.converter.proofs.Frames.{Parts, parts, frames-same, frames-drawn, frames-read}
 use Rattle.converter.proofs.Unread.{frame-unread}
 use Rattle.converter.proofs.FirstWords.{frame-first, frame-other}
 
@@ -131,10 +131,13 @@ turns : (latch : ℕ) (σ : Settings) (m fin : List ℕ) → Sixteen σ m → go
 turns latch σ m fin h g f c e n =
     let x = parts latch σ m (h .0) fin f in
     let τ = turnedSettings σ in
+    let same : frame latch (c .settings) (turnedMemory fin m) ≡ frameBelow latch (segmented σ) m =
+    ap (λ (τ : Settings). frame latch τ (turnedMemory fin m)) (sym e) ∙ frame-below τ (turned-good σ ∙ g) (turned-linear σ) latch (turnedMemory fin m)
+    ∙ frames-same latch σ m (h .0) fin (h .1) (h .2) x in
     record {
       settings = sym e ∙ turned-same σ;
-      sameFrame = ap (λ (τ : Settings). frame latch τ (turnedMemory fin m)) (sym e) ∙ frame-below τ (turned-good σ ∙ g) (turned-linear σ) latch (turnedMemory fin m)
-          ∙ frames-same latch σ m (h .0) fin (h .1) (h .2) x;
+      sameFrame = same;
+      drawn = ap (λ (f : Frame). f .refusal) same ∙ frames-drawn latch σ m (h .0) fin (h .1) (h .2) x;
       sameAddresses = ap (λ (τ : Settings). frameRead latch τ (turnedMemory fin m)) (sym e) ∙ frames-read latch σ m (h .0) fin (h .1) (h .2) x;
       turned = turned-by latch σ m (h .0) fin x;
       unread = λ i r. turned-word fin m i ∙ ap (λ (k : ℕ). turned k (getD m i 0)) (frame-unread latch σ m (h .0) fin i x r);

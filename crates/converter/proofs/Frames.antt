@@ -1,6 +1,7 @@
 -- The start of a frame that was followed to its end, and the frame from there.
 use mathlib.Core.Path.{_≡_, refl, ap, sym, _∙_}
 use mathlib.Core.Bool.{Bool, true, false}
+use mathlib.Core.Option as Option
 use mathlib.Core.List.{List, [], _∷_, _++_}
 use Prim.Native.Nat.{ℕ, _+_, _/_, _≤_, _<_}
 use native.Mathlib.Omega.{arith}
@@ -26,7 +27,7 @@ use Rattle.converter.proofs.Alike.{Same}
 use Rattle.converter.proofs.Pointers.{Stands}
 use Rattle.converter.proofs.Rows.{segmented, Standing, top-alike, start-alike}
 use Rattle.converter.proofs.Walks.{Walks, walks, Kept, kept-on, walks-on, Follows, follows}
-use Rattle.converter.proofs.Theorem.{Rows, rows, rows-on, rows-same, rows-read}
+use Rattle.converter.proofs.Theorem.{Rows, rows, rows-on, rows-same, rows-drawn, rows-read}
 
 -- the addresses of one reading after another that comes to a result
 pub asked-then : {A B : Type 0} (n : ℕ) (m : List ℕ) (p : Reading A) (k : A → Reading B) {i : ℕ} {a : A} → runFrom n m p ≡ given i a
@@ -143,6 +144,13 @@ module _ (latch : ℕ) (σ : Settings) (m : List ℕ) (b : Words m) (fin : List 
         let s = starts in
         rw (s .before, s .after)
         (rows-same σ m b fin (x .state .fields .left) (record { state = x .state; words = s .count }) (x .marks₂) size₂ (s .stands) (x .rest))
+
+    pub frames-drawn : frameBelow latch (segmented σ) m .refusal ≡ Option.none
+    unfolding frameBelow
+    frames-drawn =
+        let s = starts in
+        rw (s .before)
+        (rows-drawn σ m b fin (x .state .fields .left) (record { state = x .state; words = s .count }) (x .marks₂) size₂ (s .stands) (x .rest))
 
     pub frames-read : frameRead latch (turnedSettings σ) (turnedMemory fin m) ≡ frameRead latch (segmented σ) m
     unfolding frameRead

@@ -1,5 +1,6 @@
 pub mod Alike
 pub mod Pointers
+pub mod PageEnds
 pub mod Blocks
 pub mod Cells
 pub mod Rows

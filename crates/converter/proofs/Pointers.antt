@@ -44,10 +44,10 @@ unfolding pointer
 small from f s h = omega arith
 
 -- the address some steps on from where a pointer points, in its page
-abbrev InPage : (start steps a : ℕ) → Type 0
+abbrev pub InPage : (start steps a : ℕ) → Type 0
 InPage start steps a = a ≡ start / 65536 * 65536 + (start + 2 * steps) % 65536
 
-in-page : (start steps a : ℕ) → InPage start steps a → InPage start (steps + 1) (nextWord false a)
+pub in-page : (start steps a : ℕ) → InPage start steps a → InPage start (steps + 1) (nextWord false a)
 in-page start steps a e = omega (arith, step-segmented a)
 
 -- a step never leads back there, in as few as a row's
@@ -58,11 +58,11 @@ no-round start k l h e = by-page (ltb (start / 65536) ((start + 2 * k) / 65536))
     by-page true p = omega (arith, ltb-true (start / 65536) ((start + 2 * k) / 65536) p)
     by-page false p = omega (arith, ltb-false (start / 65536) ((start + 2 * k) / 65536) p)
 
-not-back : (start steps a : ℕ) → InPage start steps a → steps < 12000 → nextWord false a ≡ start → ⊥
+pub not-back : (start steps a : ℕ) → InPage start steps a → steps < 12000 → nextWord false a ≡ start → ⊥
 not-back start steps a e l s = no-round start (steps + 1) (omega arith) (omega arith) (sym s ∙ in-page start steps a e)
 
 -- a step that does not wrap is linear
-in-page-even : (start steps a : ℕ) → InPage start steps a → start % 2 ≡ 0 → a % 2 ≡ 0
+pub in-page-even : (start steps a : ℕ) → InPage start steps a → start % 2 ≡ 0 → a % 2 ≡ 0
 in-page-even start steps a e v = omega arith
 
 in-page-low : (start steps a : ℕ) → InPage start steps a → start < 8388608 → a < 8388608

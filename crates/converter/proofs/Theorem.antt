@@ -3,6 +3,7 @@
 use mathlib.Core.Path.{_≡_, refl, ap, ap₂, sym, _∙_}
 use mathlib.Core.Bool.{Bool, true, false}
 use mathlib.Core.List.{List}
+use mathlib.Core.Option as Option
 use Prim.Native.Nat.{ℕ, zero, suc, _≤_}
 use native.Mathlib.Omega.{arith}
 use lib.ListN.{length}
@@ -21,7 +22,7 @@ use Rattle.row.specs.declared.DrawnRow.{DrawnRow}
 use Rattle.row.specs.Row.{codeSettings, Row, withCursor}
 use Rattle.frame.specs.declared.Progress.{Progress}
 use Rattle.frame.specs.Step.{after}
-use Rattle.frame.specs.Frame.{withRow}
+use Rattle.frame.specs.Frame.{Frame, withRow}
 use Rattle.converter.specs.Walk.{Walked, went, halted, walk}
 use Rattle.converter.specs.Below.{rowBelow, stepBelow, withinBelow, stateAfter, rowsRead}
 use Rattle.converter.specs.Converter.{Followed, ended, onwards, followRows, turnedMemory, turnedSettings}
@@ -55,6 +56,10 @@ within-end : (σ τ : Settings) (m l : List ℕ) (n : ℕ) (p : Progress) → eq
     → withinBelow (suc n) σ m p ≡ withinBelow (suc n) τ l p
 unfolding withinBelow stepBelow
 within-end σ τ m l n p e = rw e
+
+within-over : (σ : Settings) (m : List ℕ) (n : ℕ) (p : Progress) → eqb (p .state .fields .left) 0 ≡ true → withinBelow (suc n) σ m p .refusal ≡ Option.none
+unfolding withinBelow stepBelow
+within-over σ m n p e = rw e
 
 module _ (σ : Settings) (m : List ℕ) (b : Words m) where
   -- rows that are drawn the same have the same answer and the same cells
@@ -128,6 +133,17 @@ module _ (σ : Settings) (m : List ℕ) (b : Words m) where
         ∙ ap (λ (d : DrawnRow). withRow d (withCursor (turnedSettings σ) f (x .result .drawing .cells)) (withinBelow n (turnedSettings σ) (turnedMemory fin m) (after p d))) (sym (same-answer f (x .count) (x .related)))
         ∙ ap₂ (withRow (drawnRow f (x .count) r)) (sym (same-cells f (x .related))) go-on
         ∙ sym (within-row (segmented σ) m n p e (x .before))
+
+    -- no row is refused
+    pub rows-drawn : (n : ℕ) (p : Progress) (marks : List ℕ) → length marks ≡ length m → Standing m b (p .state .fields) → Rows n marks (p .state)
+        → withinBelow n (segmented σ) m p .refusal ≡ Option.none
+    unfolding withinBelow
+    rows-drawn zero p marks l h r = refl
+    rows-drawn (suc n) p marks l h (over e _) = within-over (segmented σ) m n p e
+    rows-drawn (suc n) p marks l h (row {marks₁} {r} e w rest) =
+        let x = row-follows (p .state) l h w rest in
+        let q = after p (drawnRow (p .state .fields) (x .count) r) in
+        ap (λ (f : Frame). f .refusal) (within-row (segmented σ) m n p e (x .before)) ∙ rows-drawn n q marks₁ (walks-on l w .size) (next-stands (x .related)) rest
 
     pub rows-read : (n : ℕ) (s : State) (marks : List ℕ) → length marks ≡ length m → Standing m b (s .fields) → Rows n marks s
         → rowsRead n (turnedSettings σ) (turnedMemory fin m) s ≡ rowsRead n (segmented σ) m s

@@ -104,3 +104,17 @@ pageCase top = answered (convertCall 0 (screen false 0 top 20) (wholePage 32761 
 -- "P3 after 00FFFE: .. 000000 segmented": a main block that ends in the page's last word is turned; one that goes on there is 18
 unfoldable pub pageCases : List Bool
 pageCases = same (pageCase 0xFFF2) (1 ∷ 0 ∷ 0xFFF2 ∷ 0 ∷ []) ∷ same (pageCase 0xFFF4) (18 ∷ 0 ∷ 0xFFFE ∷ 0 ∷ []) ∷ []
+
+-- .. of a code list and of an attribute list: a whole page whose one row has four codes from one address on, and attribute words from
+-- another; the codes at 20 take two attribute words, and the rest of the page is 0
+unfoldable pub listCase : (codes attributes : ℕ) → List ℕ
+listCase codes attributes =
+    answered
+    (convertCall 0 (screen false 0 2 20)
+    (0 ∷ 0 ∷ 0x10 ∷ 0 ∷ 0x20 ∷ 0 ∷ 0 ∷ 15 ∷ 0 ∷ 0 ∷ 1 ∷ 0 ∷ codes ∷ 0 ∷ attributes ∷ 0x0404 ∷ 0x8080 ∷ 0x4142 ∷ wholePage 32750 []) 32768 .answer)
+
+-- a list that ends in the page's last word is followed; one that goes on there is 18
+unfoldable pub listCases : List Bool
+listCases =
+    same (listCase 0xFFFC 0) (1 ∷ 0 ∷ 2 ∷ 0 ∷ []) ∷ same (listCase 0xFFFE 0) (18 ∷ 0 ∷ 0xFFFE ∷ 0 ∷ [])
+    ∷ same (listCase 0x20 0xFFFC) (1 ∷ 0 ∷ 2 ∷ 0 ∷ []) ∷ same (listCase 0x20 0xFFFE) (18 ∷ 0 ∷ 0xFFFE ∷ 0 ∷ []) ∷ []

@@ -17,10 +17,10 @@ use Rattle.settings.specs.declared.PointerWords.{PointerWords}
 use Rattle.state.specs.declared.State.{State}
 use Rattle.start.specs.Start.{startFrom, started, startCall}
 use Rattle.row.specs.Row.{row}
-use Rattle.frame.specs.Frame.{Frame, frame}
+use Rattle.frame.specs.Frame.{Frame, blank, frame}
 use Rattle.beside.specs.declared.BesideAnswer.the-variants.{Refused}
 use Rattle.beside.specs.Beside.{BesideCalled, besideCalled, toldCall, rowBelow, afterStart, rowAbove, withTop, besideCall}
-use Rattle.desks.specs.Finds.{wordsRead, Finds, later, frameOver, lists, joined, readsOf, besideRead}
+use Rattle.desks.specs.Finds.{wordsRead, Finds, later, Buffers, frameLent, frameOver, lists, joined, readsOf, besideRead}
 use Rattle.desks.proofs.ReadLaws.{all-in, read-all, read-words}
 use Rattle.desks.proofs.Same.{Agree, over, call, Lengths, Equal, row-same, frame-same, frame-stays}
 
@@ -40,16 +40,21 @@ agree-each ms₁ ms₂ [] h = over
 agree-each ms₁ ms₂ (l ∷ ls) h =
     call (all-left l (joined ls) (h 0)) (agree-each (later ms₁) (later ms₂) ls λ n. all-right l (joined ls) (h (suc n)))
 
-pub frame-each : (latch : ℕ) (σ : Settings) (ms₁ ms₂ : Finds) → Lengths ms₁ ms₂
+pub frame-each : (latch : ℕ) (σ : Settings) (ms₁ ms₂ : Finds) → Lengths ms₁ ms₂ → (bs₁ bs₂ : Buffers) → Lengths bs₁ bs₂
     → ((n : ℕ) → All (SameWord (ms₁ n) (ms₂ n)) (joined (lists latch σ ms₁)))
+    → Equal (frameLent latch σ ms₁ bs₁) (frameLent latch σ ms₂ bs₂) (lists latch σ ms₁) (lists latch σ ms₂)
+frame-each latch σ ms₁ ms₂ len bs₁ bs₂ size h = frame-same σ latch ms₁ ms₂ len bs₁ bs₂ size (agree-each ms₁ ms₂ (lists latch σ ms₁) h)
+
+-- with right buffers
+pub frame-over : (latch : ℕ) (σ : Settings) (ms₁ ms₂ : Finds) → Lengths ms₁ ms₂ → ((n : ℕ) → All (SameWord (ms₁ n) (ms₂ n)) (joined (lists latch σ ms₁)))
     → Equal (frameOver latch σ ms₁) (frameOver latch σ ms₂) (lists latch σ ms₁) (lists latch σ ms₂)
-frame-each latch σ ms₁ ms₂ len h = frame-same σ latch ms₁ ms₂ len (agree-each ms₁ ms₂ (lists latch σ ms₁) h)
+frame-over latch σ ms₁ ms₂ len h = frame-each latch σ ms₁ ms₂ len (λ _. blank) (λ _. blank) (λ _. refl) h
 
 module _ (m₁ m₂ : List ℕ) (len : length m₁ ≡ length m₂) where
   pub frame-depends : (latch : ℕ) (σ : Settings) → All (SameWord m₁ m₂) (readsOf latch σ m₁)
       → Equal (frame latch σ m₁) (frame latch σ m₂) (lists latch σ λ _. m₁) (lists latch σ λ _. m₂)
   frame-depends latch σ h =
-      let k = frame-each latch σ (λ _. m₁) (λ _. m₂) (λ _. len) (λ _. h) in
+      let k = frame-over latch σ (λ _. m₁) (λ _. m₂) (λ _. len) (λ _. h) in
       record { frames = sym (frame-stays σ latch m₁) ∙ k .frames ∙ frame-stays σ latch m₂; addresses = k .addresses }
 
 -- ---- the row beside the cut ----

@@ -7,11 +7,11 @@ use lib.ListN.{length, getD, set, length-set}
 use lib.Seq.{getD-set-other}
 use Rattle.memory.proofs.Agree.{All, none, also, SameWord}
 use Rattle.settings.specs.declared.Settings.{Settings}
-use Rattle.frame.specs.Frame.{Frame, frame}
+use Rattle.frame.specs.Frame.{Frame, blank, frame}
 use Rattle.desks.specs.Finds.{Finds, frameOver, lists, joined, readsOf, Cut, lastOf, besideAfter, besideList}
 use Rattle.desks.specs.Depends.{_∈_, here, there, SameAt, Write, written, Between, found, Spare, Depends}
 use Rattle.desks.proofs.Same.{Equal, frame-stays}
-use Rattle.desks.proofs.Depends.{all-left, all-right, frame-each, frame-depends, beside-depends}
+use Rattle.desks.proofs.Depends.{all-left, all-right, frame-each, frame-over, frame-depends, beside-depends}
 
 -- at every address of a list
 pub every : {P : ℕ → Type 0} (l : List ℕ) → ((a : ℕ) → a ∈ l → P a) → All P l
@@ -70,24 +70,27 @@ module _ (latch : ℕ) (σ : Settings) (c : Cut) (m₁ m₂ : List ℕ) (len : l
 
 pub depends : Depends
 depends = record {
-  reads = λ latch σ m₁ m₂ len h.
-      let k = frame-depends m₁ m₂ len latch σ (every (readsOf latch σ m₁) h) in
+  reads = λ latch σ m₁ m₂ b₁ b₂ len size h.
+      let k = frame-each latch σ (λ _. m₁) (λ _. m₂) (λ _. len) b₁ b₂ size (λ _. every (readsOf latch σ m₁) h) in
       (k .frames, k .addresses);
+  right = λ latch σ m b size.
+      let k = frame-each latch σ (λ _. m) (λ _. m) (λ _. refl) b (λ _. blank) size (λ _. every (readsOf latch σ m) λ a i. refl) in
+      k .frames ∙ frame-stays σ latch m;
   beside = λ latch σ c m₁ m₂ len h.
       let all = every (readsOf latch σ m₁ ++ besideList latch σ m₁ c (frame latch σ m₁)) h in
       beside-same latch σ c m₁ m₂ len (frame latch σ m₁) (frame latch σ m₂)
       (frame-depends m₁ m₂ len latch σ (all-left (readsOf latch σ m₁) (besideList latch σ m₁ c (frame latch σ m₁)) all) .frames)
       (all-right (readsOf latch σ m₁) (besideList latch σ m₁ c (frame latch σ m₁)) all);
   writes = λ latch σ m ws h.
-      let k = frame-each latch σ (λ _. m) (found m ws) (λ n. sym (found-length n m ws)) (spared m ws (readsOf latch σ m) h) in
+      let k = frame-over latch σ (λ _. m) (found m ws) (λ n. sym (found-length n m ws)) (spared m ws (readsOf latch σ m) h) in
       (sym (k .frames) ∙ frame-stays σ latch m, sym (k .addresses));
   writesFound = λ latch σ m ws h.
-      let k = frame-each latch σ (found m ws) (λ _. m) (λ n. found-length n m ws) (spared-back m ws (joined (lists latch σ (found m ws))) h) in
+      let k = frame-over latch σ (found m ws) (λ _. m) (λ n. found-length n m ws) (spared-back m ws (joined (lists latch σ (found m ws))) h) in
       (k .frames ∙ frame-stays σ latch m, k .addresses);
   writesBeside = λ latch σ c m ws n h.
       let r = readsOf latch σ m in
       let b = besideList latch σ m c (frame latch σ m) in
-      let k = frame-each latch σ (λ _. m) (found m ws) (λ i. sym (found-length i m ws)) (λ i. all-left r b (spared m ws (r ++ b) h i)) in
+      let k = frame-over latch σ (λ _. m) (found m ws) (λ i. sym (found-length i m ws)) (λ i. all-left r b (spared m ws (r ++ b) h i)) in
       let s = beside-same latch σ c m (found m ws n) (sym (found-length n m ws)) (frame latch σ m) (frameOver latch σ (found m ws))
       (sym (frame-stays σ latch m) ∙ k .frames) (all-right r b (spared m ws (r ++ b) h n))
       in

@@ -7,7 +7,7 @@ use mathlib.Core.List.{List, [], _∷_, _++_}
 use lib.ListN.{length, getD, set}
 use Rattle.settings.specs.declared.Settings.{Settings}
 use Rattle.frame.specs.Frame.{frame}
-use Rattle.desks.specs.Finds.{Finds, later, frameOver, lists, joined, readsOf, Cut, besideAfter, besideList}
+use Rattle.desks.specs.Finds.{Finds, Buffers, frameLent, frameOver, lists, joined, readsOf, Cut, besideAfter, besideList}
 
 -- an address, or a write, is in a list
 infix 4 _∈_
@@ -45,12 +45,14 @@ Spare ws reads = (n : ℕ) (w : Write) → w ∈ ws n → (a : ℕ) → a ∈ re
 -- ---- the statement ----
 
 -- Refused frames are frames too. A frame has its rows with their cells, its refusal, the count of words and its last state; `lists` has the
--- addresses of the words that each of its calls read, which an accepted call leaves in a list of 12,000 places. Any right buffers give the
--- rows (`Calls.caller-gets` of frame).
+-- addresses of the words that each of its calls read, which an accepted call leaves in a list of 12,000 places.
 pub record Depends : Type 0 where
-  -- two memories of one length
-  pub reads : (latch : ℕ) (σ : Settings) (m₁ m₂ : List ℕ) → length m₁ ≡ length m₂ → SameAt (readsOf latch σ m₁) m₁ m₂
-      → (frame latch σ m₁ ≡ frame latch σ m₂) × (_≡_ {A = List (List ℕ)} (lists latch σ λ _. m₁) (lists latch σ λ _. m₂))
+  -- two memories of one length, and for each row two buffers of one length, whatever they hold
+  pub reads : (latch : ℕ) (σ : Settings) (m₁ m₂ : List ℕ) (b₁ b₂ : Buffers) → length m₁ ≡ length m₂ → ((n : ℕ) → length (b₁ n) ≡ length (b₂ n))
+      → SameAt (readsOf latch σ m₁) m₁ m₂
+      → (frameLent latch σ (λ _. m₁) b₁ ≡ frameLent latch σ (λ _. m₂) b₂) × (_≡_ {A = List (List ℕ)} (lists latch σ λ _. m₁) (lists latch σ λ _. m₂))
+  -- right buffers give the frame
+  pub right : (latch : ℕ) (σ : Settings) (m : List ℕ) (b : Buffers) → ((n : ℕ) → length (b n) ≡ 132) → frameLent latch σ (λ _. m) b ≡ frame latch σ m
   -- and of the row beside the cut, with its shift and soft top: what it reads too
   pub beside : (latch : ℕ) (σ : Settings) (c : Cut) (m₁ m₂ : List ℕ) → length m₁ ≡ length m₂
       → SameAt (readsOf latch σ m₁ ++ besideList latch σ m₁ c (frame latch σ m₁)) m₁ m₂

@@ -41,23 +41,29 @@ Finds = ℕ → List ℕ
 abbrev pub later : Finds → Finds
 later ms n = ms (suc n)
 
--- ---- the frame: `frame` of frame/specs/Frame.antt, each call on the memory that it finds ----
+-- the row buffers that its rows are lent, row 0's first
+abbrev pub Buffers : Type 0
+Buffers = ℕ → List ℕ
 
-unfoldable pub withinOver : ℕ → Settings → Finds → Progress → Frame
-withinOver zero σ ms p = stopped none p
-withinOver (suc n) σ ms p = byStep (withinOver n σ (later ms)) p (step σ (ms 0) p blank)
+-- ---- the frame: `frame` of frame/specs/Frame.antt, each call on the memory that it finds and with the row buffer that it is lent; where that
+-- has another number of cells, the frame ends with refusal 1 ----
 
-abbrev pub restOver : Settings → Finds → Progress → Frame
-restOver σ ms p = withinOver (p .state .fields .left) σ ms p
+unfoldable pub withinLent : ℕ → Settings → Finds → Buffers → Progress → Frame
+withinLent zero σ ms bs p = stopped none p
+withinLent (suc n) σ ms bs p = byStep (withinLent n σ (later ms) (later bs)) p (step σ (ms 0) p (bs 0))
 
-abbrev pub fromBeginOver : Settings → Finds → BeginAnswer → Frame
-fromBeginOver σ ms (Begin.Begun p) = restOver σ ms p
-fromBeginOver σ ms (Begin.Refused r) = notStarted r
+abbrev pub fromBeginLent : Settings → Finds → Buffers → BeginAnswer → Frame
+fromBeginLent σ ms bs (Begin.Begun p) = withinLent (p .state .fields .left) σ ms bs p
+fromBeginLent σ ms bs (Begin.Refused r) = notStarted r
 
-unfoldable pub frameOver : ℕ → Settings → Finds → Frame
-frameOver latch σ ms = fromBeginOver σ (later ms) (begin latch σ (ms 0))
+unfoldable pub frameLent : ℕ → Settings → Finds → Buffers → Frame
+frameLent latch σ ms bs = fromBeginLent σ (later ms) bs (begin latch σ (ms 0))
 
--- ---- its lists: for each of its calls, the start first, the addresses of the words read, in order. A refused call has its list here too:
+-- with right buffers
+abbrev pub frameOver : ℕ → Settings → Finds → Frame
+frameOver latch σ ms = frameLent latch σ ms λ _. blank
+
+-- ---- its lists, with right buffers: for each of its calls, the start first, the addresses of the words read, in order. A refused call has its list here too:
 -- what it read before it was refused ----
 
 abbrev pub listsAfter : (Progress → List (List ℕ)) → StepAnswer → List (List ℕ)

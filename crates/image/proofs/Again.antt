@@ -1,7 +1,7 @@
 -- A script that was written from an image is read as that image.
 use mathlib.Core.Path.{_≡_, refl, ap, sym, _∙_}
-use mathlib.Core.List.{List, [], _∷_, _++_}
-use Prim.Native.Nat.{ℕ, zero, suc, _+_, _<_, _≤_}
+use mathlib.Core.List.{List, _++_}
+use Prim.Native.Nat.{ℕ, zero, suc, _≤_}
 use native.Mathlib.Omega.{arith}
 use native.Mathlib.Nat.{le-refl}
 use lib.ListN.{length, replicate}
@@ -36,7 +36,8 @@ module _ (i : Image) (r : Ranged i) where
   unfolding written
   from-zeros none zeros e f =
       rw (e, f)
-      (before-draw .comes-to (length (written i)) (length (written i)) 0 unset drawRecord (drawn i) refl (le-refl _) (λ k next σ g h. last (length (written i)) k next σ g h))
+      (before-draw .comes-to (length (written i)) (length (written i)) 0 unset drawRecord (drawn i) refl (le-refl _)
+      (λ k next σ g h. last (length (written i)) k next σ g h))
 
   pub image-again : image (written i) ≡ drawn i
   unfolding image script registersOf

@@ -1,5 +1,5 @@
 -- What the records of a written script do, one after the other.
-use mathlib.Core.Path.{_≡_, refl, sym, _∙_}
+use mathlib.Core.Path.{_≡_, refl, _∙_}
 use mathlib.Core.Bool.{true}
 use mathlib.Core.List.{List, [], _∷_, _++_, append-assoc}
 use Prim.Native.Nat.{ℕ, zero, suc, _+_, _*_, _/_, _%_, _<_, _≤_}
@@ -11,7 +11,7 @@ use borrow.Author.Tests.{eq-eqb, ne-eqb, le-ltb, lt-ltb, le-leb, eqb-true}
 use Rattle.memory.specs.Word.{high, low}
 use Rattle.memory.proofs.ReadBounds.{if-cases}
 use Rattle.settings.specs.declared.Settings.{Settings}
-use Rattle.script.specs.Records.{bodyLength, accepted, address, value, interlaceBits, switched, registered, settingsAfter, memoryAfter}
+use Rattle.script.specs.Records.{bodyLength, accepted, address, value, interlaceBits, registered, settingsAfter, memoryAfter}
 use Rattle.script.specs.Script.{number, numberFrom, records}
 use Rattle.image.specs.Registers.{registersAfter, registersBy}
 use Rattle.image.specs.Image.{Outcome, switchesOf, withRegisters}
@@ -135,9 +135,11 @@ module _ (s : ℕ) (rs m : List ℕ) where
   pub registers-lead : (vs : List ℕ) → length vs ≤ 25 → ((j : ℕ) → getD vs j 0 < 65536)
       → Leads (valuesText registerRecord 0 vs) s (replicate (length vs) 0) m s vs m
   registers-lead vs h w =
-      values-lead (λ bytes x y. Leads bytes s x m s y m) (λ x. no-bytes s x m) (λ a b x y z p q. in-turn p q) registerRecord 25 (λ i v g k x. register-leads i v g k s x m) vs [] 0 refl (omega arith) w
+      values-lead (λ bytes x y. Leads bytes s x m s y m) (λ x. no-bytes s x m) (λ a b x y z p q. in-turn p q)
+      registerRecord 25 (λ i v g k x. register-leads i v g k s x m) vs [] 0 refl (omega arith) w
 
   pub words-lead : (vs : List ℕ) → length vs ≤ 16384 → ((j : ℕ) → getD vs j 0 < 65536)
       → Leads (valuesText wordRecord 0 vs) s rs (replicate (length vs) 0) s rs vs
   words-lead vs h w =
-      values-lead (λ bytes x y. Leads bytes s rs x s rs y) (λ x. no-bytes s rs x) (λ a b x y z p q. in-turn p q) wordRecord 16384 (λ i v g k x. word-leads i v g k s rs x) vs [] 0 refl (omega arith) w
+      values-lead (λ bytes x y. Leads bytes s rs x s rs y) (λ x. no-bytes s rs x) (λ a b x y z p q. in-turn p q)
+      wordRecord 16384 (λ i v g k x. word-leads i v g k s rs x) vs [] 0 refl (omega arith) w

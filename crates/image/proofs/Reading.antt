@@ -111,7 +111,8 @@ module _ {A : Type 0} (f : List ℕ → Outcome → A) (refused : (rs qs : List 
   unfolding registersOf beginning
   fed-image bytes h w t e =
       let o = t .stepped .outcome in
-      as-read o (t .registers) (registersOf bytes) (t .stepped .memory) (rw e (by-records (length bytes) bytes beginning (replicate 25 0) (replicate 16384 0) (le-refl _) w refl))
+      as-read o (t .registers) (registersOf bytes) (t .stepped .memory)
+      (rw e (by-records (length bytes) bytes beginning (replicate 25 0) (replicate 16384 0) (le-refl _) w refl))
       ∙ ap (λ (u : Stepped). f (registersOf bytes) (outcome u)) (ap (λ (u : Fed). u .stepped) e ∙ same-script bytes beginning (replicate 25 0) (replicate 16384 0))
       ∙ ap (f (registersOf bytes)) (fed-script bytes h w)
 

@@ -4,3 +4,4 @@ pub mod Feeding
 pub mod Ranges
 pub mod Written
 pub mod ToCome
+pub mod Cases

@@ -1,5 +1,7 @@
 -- A screen of four rows of three lines, A B C D, the last cut to two lines, and lines inserted in it, computed: those of examples/insert-before.script and
--- insert-after.script among them. For each hypothesis of the theorem there is a screen that lacks it alone, and on which a row moves otherwise.
+-- insert-after.script among them. There is a screen that lacks each hypothesis alone, and on which a row moves otherwise, but for these: words of a slice have
+-- 16 bits; a word read for something else and the link followed twice matter where they are so in both frames. In the old one alone it is the last row, which
+-- falls off, in the new one alone the new row, and the screens with these move as said.
 use Prim.Native.Nat.{ℕ, suc, _*_}
 use mathlib.Core.Path.{_≡_, refl}
 use mathlib.Core.Bool.{Bool, true, false, _&&_, not}
@@ -157,8 +159,8 @@ above σ link m n = let place = placeOf 0 σ link m in front (take place (cellsO
 below : Settings → ℕ → List ℕ → List ℕ → Bool
 below σ link m n = let place = placeOf 0 σ link m in front (drop (suc place) (cellsOf (rowsOf σ n))) (drop place (cellsOf (rowsOf σ m)))
 
--- the tests that fail, by number: 0 window, 1 cursor, 2 and 3 the link, 4 and 5 taken over, 6 other words; of the old frame 7 words, 8
--- redefinition, 9 read for something else, 10 followed twice, 11 refused; of the new one 12 to 16
+-- the tests that fail, by number: 0 window, 1 cursor, 2 and 3 the link, 4 taken over, 5 other words; of the old frame 6 words, 7
+-- redefinition, 8 read for something else, 9 followed twice, 10 refused; of the new one 11 to 15
 failed : ℕ → List Bool → List ℕ
 failed k [] = []
 failed k (b ∷ bs) = if b then failed (suc k) bs else k ∷ failed (suc k) bs
@@ -211,6 +213,38 @@ astray = screen 0x80 0x20 0x60 0x50 0 (keeping 0x50) free
 retyped : List ℕ
 retyped = Words.set (kept free) 0x50 0x5365
 
+-- a redefinition to one line, and D without segments that points at it
+one : List ℕ
+one = 0 ∷ 0 ∷ 0x1F ∷ 0 ∷ 0 ∷ 0 ∷ 0 ∷ 0 ∷ []
+
+redefinedD : List ℕ → List ℕ
+redefinedD m = Words.set (Words.set m 0x2A 0x8000) 0x2C 0x70
+
+-- the words at 0 and 2 point at the new block; they are those of a link that takes over B's, which is this one
+unheld : List ℕ
+unheld = Words.set (screen 0x80 0x20 0x40 0x50 0 (keeping 0) free) 1 0x60
+
+withNull : ℕ → List ℕ
+withNull b = Words.set (screen 0x80 0x20 b 0x50 0 free free) 1 0x40
+
+-- L 7 and V 8 in the new block; in D
+broken : List ℕ
+broken = Words.set (kept free) 0x37 0x708
+
+brokenD : List ℕ → List ℕ
+brokenD m = Words.set m 0x2F 0x708
+
+-- B's link with the bits set that a linear pointer ignores
+ignoring : List ℕ
+ignoring = Words.set (Words.set (kept free) 0x30 0xFF00) 0x31 0x41
+
+-- codes in the new block: D's, the new row's
+codesD : List ℕ → List ℕ
+codesD m = Words.set m 0x2C 0x62
+
+itself : List ℕ
+itself = Words.set (kept free) 0x34 0x62
+
 -- ---- the computed statement ----
 
 pub tests : List Bool
@@ -227,18 +261,31 @@ tests =
     ∷ same (fails (settings 0x70 false 11) 0x30 (old window) (kept window)) (0 ∷ []) ∷ not (below (settings 0x70 false 11) 0x30 (old window) (kept window))
     -- the cursor on row 2: 1 alone fails, and C loses its mark
     ∷ same (fails (settings 0 true 11) 0x30 (old free) (kept free)) (1 ∷ []) ∷ not (below (settings 0 true 11) 0x30 (old free) (kept free))
-    -- the old link not taken over: 5 alone fails, and D follows
-    ∷ same (fails plain 0x30 (old free) astray) (5 ∷ []) ∷ not (below plain 0x30 (old free) astray)
-    -- another word changed: 6 alone fails, and C is written otherwise
-    ∷ same (fails plain 0x30 (old free) retyped) (6 ∷ []) ∷ not (below plain 0x30 (old free) retyped)
-    -- a redefinition: 13 alone fails, and the rows have other lines
-    ∷ same (fails plain 0x30 (old eight) redefining) (13 ∷ []) ∷ same (lines plain redefining) (3 ∷ 3 ∷ 5 ∷ [])
-    -- the link followed twice on eight rows: 10 and 15 fail, and the new row comes twice; on four rows it is followed once
-    ∷ same (fails taller 0x30 looped loopedKept) (10 ∷ 15 ∷ []) ∷ not (below taller 0x30 looped loopedKept)
+    -- the old link not taken over: 4 alone fails, and D follows
+    ∷ same (fails plain 0x30 (old free) astray) (4 ∷ []) ∷ not (below plain 0x30 (old free) astray)
+    -- another word changed: 5 alone fails, and C is written otherwise
+    ∷ same (fails plain 0x30 (old free) retyped) (5 ∷ []) ∷ not (below plain 0x30 (old free) retyped)
+    -- a redefinition: 12 alone fails, and the rows have other lines; on D, which falls off, 7 alone
+    ∷ same (fails plain 0x30 (old eight) redefining) (12 ∷ []) ∷ same (lines plain redefining) (3 ∷ 3 ∷ 5 ∷ [])
+    ∷ same (fails plain 0x30 (redefinedD (old one)) (redefinedD (kept one))) (7 ∷ []) ∷ same (lines plain (redefinedD (old one))) (3 ∷ 3 ∷ 3 ∷ 1 ∷ 1 ∷ [])
+    -- the link at address 0, where no block is: 2 alone fails, and no row is new; a link that is null then: 3 alone, and C does not follow
+    ∷ same (fails (settings 0 false 18) 0 (old free) unheld) (2 ∷ []) ∷ same (seen (settings 0 false 18) unheld) (seen (settings 0 false 18) (old free))
+    ∷ same (fails plain 0x30 (withNull 0x40) (withNull 0)) (3 ∷ []) ∷ not (below plain 0x30 (withNull 0x40) (withNull 0))
+    -- a frame refused, the new one on its new row, the old one on D: 15 alone and 10 alone fail, and there are fewer rows
+    ∷ same (fails plain 0x30 (old free) broken) (15 ∷ []) ∷ same (lines plain broken) (3 ∷ 3 ∷ [])
+    ∷ same (fails plain 0x30 (brokenD (old free)) (brokenD (kept free))) (10 ∷ []) ∷ same (lines plain (brokenD (old free))) (3 ∷ 3 ∷ 3 ∷ [])
+    -- bits of the new block's link that a pointer ignores are no matter
+    ∷ passes 0 plain 0x30 (old free) ignoring ∷ below plain 0x30 (old free) ignoring
+    -- the link followed twice on eight rows: 9 and 14 fail, and the new row comes twice; on four rows it is followed once
+    ∷ same (fails taller 0x30 looped loopedKept) (9 ∷ 14 ∷ []) ∷ not (below taller 0x30 looped loopedKept)
     ∷ same (fails plain 0x30 looped loopedKept) [] ∷ below plain 0x30 looped loopedKept
-    -- words of the new block, or of the link, read as codes: 9 and 14 fail, and the row above has other cells
-    ∷ same (fails plain 0x30 inBlock inBlockKept) (9 ∷ 14 ∷ []) ∷ not (above plain 0x30 inBlock inBlockKept)
-    ∷ same (fails plain 0x30 inLink inLinkKept) (9 ∷ 14 ∷ []) ∷ not (above plain 0x30 inLink inLinkKept)
+    -- words of the new block, or of the link, read as codes: 8 and 13 fail, and the row above has other cells
+    ∷ same (fails plain 0x30 inBlock inBlockKept) (8 ∷ 13 ∷ []) ∷ not (above plain 0x30 inBlock inBlockKept)
+    ∷ same (fails plain 0x30 inLink inLinkKept) (8 ∷ 13 ∷ []) ∷ not (above plain 0x30 inLink inLinkKept)
+    -- .. in one frame alone: the link followed twice by the last of five rows; D's codes, then the new row's, in the new block
+    ∷ same (fails (settings 0 false 15) 0x30 looped loopedKept) (9 ∷ []) ∷ below (settings 0 false 15) 0x30 looped loopedKept
+    ∷ same (fails plain 0x30 (codesD (old free)) (codesD (kept free))) (8 ∷ []) ∷ below plain 0x30 (codesD (old free)) (codesD (kept free))
+    ∷ same (fails plain 0x30 (old free) itself) (13 ∷ []) ∷ above plain 0x30 (old free) itself ∷ below plain 0x30 (old free) itself
     ∷ []
 
 -- these, the hypotheses of four insertions (from the start latches 0, 0, A000 and 0), the place and the effect of the first
@@ -247,5 +294,5 @@ pub computed : (every tests ≡ true)
     × (passes 0xA000 plain 0x10 (old free) topmost ≡ true) × (passes 0 taller 0x50 (old free) lowest ≡ true)
     × (placeOf 0 plain 0x30 (old free) ≡ 2)
     × (effectAt plain (kept free) (getElem? (states 0 plain (kept free)) (placeOf 0 plain 0x30 (old free))) ≡ some empty)
-unfolding settings block screen free keeping setting plain old kept set topmost taller lowest flagged same front seen above below failed fails effectAt window eight redefining looped loopedKept inBlock inBlockKept inLink inLinkKept astray retyped tests _>>=_ each runFrom asked pointer nextWord ahead words readAs good checkSettings linesForRows mainBlock mainBlockAt segmentOf segmentsAt segmentRoles restOfBlock blockAt rowBlockAt windowRowAt formatOf redefined W.windowOf W.windowAt W.firstWindow W.dueWindow S.windowInRange S.inRange invokes sourceNumber windowNumber cell width total allFit boundary edgesFit covered onSide segmentsOn windowRow overlaid nextFields backgroundBlock backgroundRow plan taking put character examine wordCodes codes filled fillByWord fillTo segment segmentsTo rowCells row withCursor rowCall topBlock firstFields windowStart startFrom begin step within rest frame outcomeFor effectCall calledOn states timesFollowed firstFollowed apart allApart rowsElse readElse noRedefinition every wordsFit sameFrom passes
+unfolding settings block screen free keeping setting plain old kept set topmost taller lowest flagged same front seen above below failed fails effectAt window eight redefining looped loopedKept inBlock inBlockKept inLink inLinkKept astray retyped one redefinedD unheld withNull broken brokenD ignoring codesD itself tests _>>=_ each runFrom asked pointer nextWord ahead words readAs good checkSettings linesForRows mainBlock mainBlockAt segmentOf segmentsAt segmentRoles restOfBlock blockAt rowBlockAt windowRowAt formatOf redefined W.windowOf W.windowAt W.firstWindow W.dueWindow S.windowInRange S.inRange invokes sourceNumber windowNumber cell width total allFit boundary edgesFit covered onSide segmentsOn windowRow overlaid nextFields backgroundBlock backgroundRow plan taking put character examine wordCodes codes filled fillByWord fillTo segment segmentsTo rowCells row withCursor rowCall topBlock firstFields windowStart startFrom begin step within rest frame outcomeFor effectCall calledOn states timesFollowed firstFollowed apart allApart rowsElse readElse noRedefinition every wordsFit sameFrom passes
 computed = (refl, refl, refl, refl, refl, refl, refl)

@@ -2,6 +2,7 @@
 use mathlib.Core.Path.{_≡_, refl, ap, ap₂, sym, subst, _∙_}
 use mathlib.Core.Bool.{Bool, true, false}
 use mathlib.Core.List.{List, [], _∷_}
+use mathlib.Core.Option.{some}
 use Prim.Native.Nat.{ℕ, suc, _+_, _≤_}
 use native.Mathlib.Omega.{arith}
 use lib.ListN.{drop}
@@ -10,7 +11,6 @@ use borrow.Author.Tests.{eqb-true}
 use Rattle.memory.specs.Word.{if_then_else_}
 use Rattle.memory.specs.declared.Pointer.{Pointer}
 use Rattle.memory.specs.Reading.{given, run, asked}
-use Rattle.memory.specs.Address.{pointer, nextWord}
 use Rattle.memory.proofs.Agree.{same-outcome}
 use Rattle.settings.specs.declared.Settings.{Settings}
 use Rattle.windows.specs.declared.WindowInHand.the-variants.{Absent}
@@ -26,8 +26,8 @@ use Rattle.joining.specs.declared.Applied.the-variants.{Latch}
 use Rattle.joining.specs.Join.{empty, apply}
 use Rattle.joining.proofs.Joining.{apply-empty}
 use Rattle.effect.specs.Effect.{effectCall}
-use Rattle.insertion.specs.Followed.{calledOn, blockOf, wordAt, pointerIn, timesFollowed, firstFollowed, allApart, ownWords, rowsElse, noRedefinition}
-use Rattle.insertion.specs.Insertion.{Insertion, changed, withNext}
+use Rattle.insertion.specs.Followed.{calledOn, blockOf, pointerIn, timesFollowed, firstFollowed, allApart, ownWords, rowsElse, noRedefinition}
+use Rattle.insertion.specs.Insertion.{Insertion, changed, withNext, cellsCalled}
 use Rattle.insertion.proofs.Chains.{nextOf, drawnRow, Chain, ended, drawn}
 use Rattle.insertion.proofs.Told.{Close, Told, plain-rows, linkRead, told-row, Relinked, row-relinked}
 use Rattle.insertion.proofs.Latches.{latch-next}
@@ -42,12 +42,6 @@ rest-once : (t : Bool) (n : ℕ) → (if t then 1 else 0) + n ≤ 1 → n ≤ 1
 rest-once true n h = omega arith
 rest-once false n h = omega arith
 
--- where a pointer points does not depend on where it begins
-pointer-address : (linear : Bool) (x y w v : ℕ) → pointer linear x w v .address ≡ pointer linear y w v .address
-unfolding pointer
-pointer-address true x y w v = refl
-pointer-address false x y w v = refl
-
 module _ (latch : ℕ) (σ : Settings) (link : ℕ) (old new : List ℕ) (h : Insertion latch σ link old new) where
   -- a state of the old frame, led to the new block
   abbrev pub inserted : State → State
@@ -56,7 +50,7 @@ module _ (latch : ℕ) (σ : Settings) (link : ℕ) (old new : List ℕ) (h : In
   -- two frames from a row on: so many rows alike, then the new row, then pairs
   pub data Moved : ℕ → State → List FrameRow → State → List FrameRow → Type 0 where
     over : {o n : State} → Moved 0 o [] n []
-    here : {o : State} {q r : FrameRow} {os ns : List FrameRow} → r .cells ≡ rowCall σ new (inserted o) blank .buffer
+    here : {o : State} {q r : FrameRow} {os ns : List FrameRow} → some (r .cells) ≡ cellsCalled (rowCall σ new (inserted o) blank)
         → (effectCall σ new (inserted o .fields) .effect ≡ empty → r .answer .next .latch ≡ o .latch)
         → Pairs latch σ link old new h o (q ∷ os) (r .answer .next) ns → Moved 0 o (q ∷ os) (inserted o) (r ∷ ns)
     above : {p : ℕ} {o n : State} {q r : FrameRow} {os ns : List FrameRow} → r .cells ≡ q .cells
@@ -82,10 +76,7 @@ module _ (latch : ℕ) (σ : Settings) (link : ℕ) (old new : List ℕ) (h : In
 
     -- "The new block takes over the old link"
     same-block : linkRead σ new (inserted o .fields) .address ≡ o .fields .next .address
-    same-block =
-        let a = pointerIn σ link new .address in
-        rw (h .points, h .first, h .second)
-        (pointer-address (σ .linear) a link (wordAt old link) (wordAt old (nextWord (σ .linear) link)) ∙ ap (λ (p : Pointer). p .address) (sym linked))
+    same-block = rw (h .points) (h .taken ∙ ap (λ (p : Pointer). p .address) (sym linked))
 
     close : Close (o .fields) (r .next)
     unfolding nextFields
@@ -109,8 +100,8 @@ module _ (latch : ℕ) (σ : Settings) (link : ℕ) (old new : List ℕ) (h : In
         sym (latch-next σ new (inserted o) e) ∙ ap (λ (x : Effect). apply x (o .latch)) k ∙ apply-empty (o .latch) in
         cc
 
-    cells-new : drawnRow σ (inserted o) j r .cells ≡ rowCall σ new (inserted o) blank .buffer
-    cells-new = no-mark latch σ link old new h (inserted o .fields) (r .drawing .cells) ∙ sym (call-cells latch σ link old new h new (inserted o) e)
+    cells-new : some (drawnRow σ (inserted o) j r .cells) ≡ cellsCalled (rowCall σ new (inserted o) blank)
+    cells-new = ap some (no-mark latch σ link old new h (inserted o .fields) (r .drawing .cells)) ∙ sym (call-cells latch σ link old new h new (inserted o) e)
 
   pub at-place : {size holder : ℕ} {o : State} {os ns : List FrameRow} → eqb holder link ≡ true → o .fields .next ≡ pointerIn σ link old
       → Upper size holder o (inserted o) os ns → Chain σ old o os → Chain σ new (inserted o) ns → Moved 0 o os (inserted o) ns

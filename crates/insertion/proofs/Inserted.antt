@@ -143,11 +143,11 @@ module _ (latch : ℕ) (σ : Settings) (link : ℕ) (old new : List ℕ) (h : In
 
     below-from : (j : ℕ) {s : State} {r : FrameRow} → firstFollowed link (mainOf σ) (calledOn o olds) ≤ j
         → getElem? (calledOn o olds) j ≡ some s → getElem? news (suc j) ≡ some r
-        → r .cells ≡ drawnFrom σ old (s .fields) (apply (joinedEffects σ new (take (suc j) (calledOn n news))) latch)
+        → some (r .cells) ≡ drawnFrom σ old (s .fields) (apply (joinedEffects σ new (take (suc j) (calledOn n news))) latch)
     below-from j {s} {r} l p q = by (has-state n news (suc j) q)
       where
         by : Stated n news (suc j)
-            → r .cells ≡ drawnFrom σ old (s .fields) (apply (joinedEffects σ new (take (suc j) (calledOn n news))) latch)
+            → some (r .cells) ≡ drawnFrom σ old (s .fields) (apply (joinedEffects σ new (take (suc j) (calledOn n news))) latch)
         by (stated {t = u} v) =
             below-cells latch σ link old new h (together .rows) j l p v q
             ∙ ap (drawnFrom σ old (s .fields)) (sym (latch-at (suc j) v))

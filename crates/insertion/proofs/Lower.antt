@@ -2,6 +2,7 @@
 use mathlib.Core.Path.{_≡_, refl, ap, ap₂, sym, _∙_}
 use mathlib.Core.Bool.{Bool, true, false}
 use mathlib.Core.List.{List, [], _∷_, _++_}
+use mathlib.Core.Option.{some}
 use Prim.Native.Nat.{ℕ, _+_, _-_}
 use native.Mathlib.Omega.{arith}
 use lib.ListN.{drop}
@@ -18,10 +19,10 @@ use Rattle.state.specs.declared.Fields.{Fields}
 use Rattle.state.specs.declared.State.{State}
 use Rattle.state.specs.State.{stateOf}
 use Rattle.plan.specs.Plan.{linesTaken, nextFields}
-use Rattle.row.specs.Row.{Row, row, withCursor, Called, rowCall}
+use Rattle.row.specs.Row.{Row, row, withCursor, rowCall}
 use Rattle.frame.specs.Frame.{FrameRow, blank}
 use Rattle.insertion.specs.Followed.{calledOn, blockOf, timesFollowed, apart, allApart, ownWords, rowsElse, noRedefinition}
-use Rattle.insertion.specs.Insertion.{Insertion, changed}
+use Rattle.insertion.specs.Insertion.{Insertion, changed, cellsCalled}
 use Rattle.insertion.proofs.Accepted.{row-passes}
 use Rattle.insertion.proofs.Chains.{nextOf, drawnRow, Chain, ended, drawn, right-buffer}
 use Rattle.insertion.proofs.Told.{Close, Told, plain-rows, row-told, told-row, Shares, Given, found, row-close, told-close}
@@ -53,14 +54,14 @@ module _ (latch : ℕ) (σ : Settings) (link : ℕ) (old new : List ℕ) (h : In
   unfolding withCursor
   no-mark f cs = rw (h .noCursor)
 
-  pub call-cells : (m : List ℕ) (s : State) {n : ℕ} {r : Row} → run m (row σ s) ≡ given n r → rowCall σ m s blank .buffer ≡ r .drawing .cells
-  call-cells m s {r = r} e = ap (λ (c : Called). c .buffer) (right-buffer σ m s) ∙ rw e (no-mark (s .fields) (r .drawing .cells))
+  pub call-cells : (m : List ℕ) (s : State) {n : ℕ} {r : Row} → run m (row σ s) ≡ given n r → cellsCalled (rowCall σ m s blank) ≡ some (r .drawing .cells)
+  call-cells m s {r = r} e = ap cellsCalled (right-buffer σ m s) ∙ rw e (ap some (no-mark (s .fields) (r .drawing .cells)))
 
   -- rows of the new frame, each beside the old one that it was
   pub data Pairs : State → List FrameRow → State → List FrameRow → Type 0 where
     fallen : {o n : State} {os : List FrameRow} → Pairs o os n []
     more : {o n : State} {q r : FrameRow} {os ns : List FrameRow}
-        → r .cells ≡ rowCall σ old (stateOf (n .latch) (o .fields)) blank .buffer
+        → some (r .cells) ≡ cellsCalled (rowCall σ old (stateOf (n .latch) (o .fields)) blank)
         → (n .latch ≡ o .latch → (r .cells ≡ q .cells) × (r .answer .next .latch ≡ q .answer .next .latch))
         → Pairs (q .answer .next) os (r .answer .next) ns → Pairs o (q ∷ os) n (r ∷ ns)
 
@@ -116,8 +117,9 @@ module _ (latch : ℕ) (σ : Settings) (link : ℕ) (old new : List ℕ) (h : In
     former = row-close σ old new (h .size) (n .latch) (w .close) (row-passes σ old (o .latch) (o .fields) d) words e
 
     module _ {k : ℕ} {x : Row} (f : run old (row σ (stateOf (n .latch) (o .fields))) ≡ given k x) (s : Shares x r) where
-      cells-now : drawnRow σ n j r .cells ≡ rowCall σ old (stateOf (n .latch) (o .fields)) blank .buffer
-      cells-now = no-mark (n .fields) (r .drawing .cells) ∙ ap (λ (d : Drawing). d .cells) (s .drawing) ∙ sym (call-cells old _ f)
+      cells-now : some (drawnRow σ n j r .cells) ≡ cellsCalled (rowCall σ old (stateOf (n .latch) (o .fields)) blank)
+      cells-now =
+          ap some (no-mark (n .fields) (r .drawing .cells) ∙ ap (λ (d : Drawing). d .cells) (s .drawing)) ∙ sym (call-cells old _ f)
 
       same-row : n .latch ≡ o .latch → (drawnRow σ n j r .cells ≡ drawnRow σ o i q .cells) × (nextOf r .latch ≡ nextOf q .latch)
       same-row g =

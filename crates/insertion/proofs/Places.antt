@@ -13,7 +13,7 @@ use Rattle.frame.specs.Frame.{FrameRow, blank}
 use Rattle.joining.specs.Join.{empty}
 use Rattle.effect.specs.Effect.{effectCall}
 use Rattle.insertion.specs.Followed.{calledOn}
-use Rattle.insertion.specs.Insertion.{Insertion, cellsOf}
+use Rattle.insertion.specs.Insertion.{Insertion, cellsCalled, cellsOf}
 use Rattle.insertion.proofs.Lower.{Pairs, fallen, more}
 use Rattle.insertion.proofs.Higher.{inserted, Moved, over, here, above}
 
@@ -37,14 +37,14 @@ has-state s (r ∷ rs) (suc j) e = next (has-state (r .answer .next) rs j e)
 module _ (latch : ℕ) (σ : Settings) (link : ℕ) (old new : List ℕ) (h : Insertion latch σ link old new) where
   pairs-at : {o n : State} {os ns : List FrameRow} → Pairs latch σ link old new h o os n ns → (j : ℕ) {s u : State} {r : FrameRow}
       → getElem? (calledOn o os) j ≡ some s → getElem? (calledOn n ns) j ≡ some u → getElem? ns j ≡ some r
-      → r .cells ≡ rowCall σ old (stateOf (u .latch) (s .fields)) blank .buffer
+      → some (r .cells) ≡ cellsCalled (rowCall σ old (stateOf (u .latch) (s .fields)) blank)
   unfolding calledOn
   pairs-at fallen j d e f = absent f
   pairs-at (more {o} {n} {r} c k p) zero {s} {u} {r = x} d e f =
       let a : r ≡ x = cc in
       let b : o ≡ s = cc in
       let g : n ≡ u = cc in
-      ap (λ (r : FrameRow). r .cells) (sym a) ∙ c ∙ ap₂ (λ (n o : State). rowCall σ old (stateOf (n .latch) (o .fields)) blank .buffer) g b
+      ap (λ (r : FrameRow). some (r .cells)) (sym a) ∙ c ∙ ap₂ (λ (n o : State). cellsCalled (rowCall σ old (stateOf (n .latch) (o .fields)) blank)) g b
   pairs-at (more c k p) (suc j) d e f = pairs-at p j d e f
 
   pairs-kept : {o n : State} {os ns : List FrameRow} → Pairs latch σ link old new h o os n ns → n .latch ≡ o .latch → (j : ℕ) {q r : FrameRow}
@@ -62,18 +62,18 @@ module _ (latch : ℕ) (σ : Settings) (link : ℕ) (old new : List ℕ) (h : In
   above-cells (above c m) = ap₂ _∷_ c (above-cells m)
 
   pub placed-cells : {p : ℕ} {o n : State} {os ns : List FrameRow} → Moved latch σ link old new h p o os n ns → {s : State} {r : FrameRow}
-      → getElem? (calledOn o os) p ≡ some s → getElem? ns p ≡ some r → r .cells ≡ rowCall σ new (inserted latch σ link old new h s) blank .buffer
+      → getElem? (calledOn o os) p ≡ some s → getElem? ns p ≡ some r → some (r .cells) ≡ cellsCalled (rowCall σ new (inserted latch σ link old new h s) blank)
   unfolding calledOn
   placed-cells over d e = absent e
   placed-cells (here {o} {r} c k p) {s} {r = x} d e =
       let a : r ≡ x = cc in
       let b : o ≡ s = cc in
-      ap (λ (r : FrameRow). r .cells) (sym a) ∙ c ∙ ap (λ (o : State). rowCall σ new (inserted latch σ link old new h o) blank .buffer) b
+      ap (λ (r : FrameRow). some (r .cells)) (sym a) ∙ c ∙ ap (λ (o : State). cellsCalled (rowCall σ new (inserted latch σ link old new h o) blank)) b
   placed-cells (above c m) d e = placed-cells m d e
 
   pub below-cells : {p : ℕ} {o n : State} {os ns : List FrameRow} → Moved latch σ link old new h p o os n ns → (j : ℕ) {s u : State} {r : FrameRow}
       → p ≤ j → getElem? (calledOn o os) j ≡ some s → getElem? (calledOn n ns) (suc j) ≡ some u → getElem? ns (suc j) ≡ some r
-      → r .cells ≡ rowCall σ old (stateOf (u .latch) (s .fields)) blank .buffer
+      → some (r .cells) ≡ cellsCalled (rowCall σ old (stateOf (u .latch) (s .fields)) blank)
   unfolding calledOn
   below-cells over j l d e f = absent f
   below-cells (here c k p) j l d e f = pairs-at p j d e f

@@ -125,16 +125,14 @@ module _ (latch : ℕ) (σ : Settings) (link : ℕ) where
         let cursor = every-both _ _ (window .1) in
         let held = every-both _ _ (cursor .1) in
         let points = every-both _ _ (held .1) in
-        let first = every-both _ _ (points .1) in
-        let second = every-both _ _ (first .1) in
-        let same = every-both _ _ (second .1) in
+        let taken = every-both _ _ (points .1) in
+        let same = every-both _ _ (taken .1) in
         record {
           noWindow = window .0;
           noCursor = not-true _ (cursor .0);
           held = not-true _ (held .0);
           points = not-true _ (points .0);
-          first = eqb-true _ _ (first .0);
-          second = eqb-true _ _ (second .0);
+          taken = eqb-true _ _ (taken .0);
           size = same-length _ 0 old new (same .0);
           same = word-at (same .0);
           before = fits _ 0 old (inner .1);
@@ -151,7 +149,6 @@ module _ (latch : ℕ) (σ : Settings) (link : ℕ) where
           h .noCursor,
           h .held,
           h .points,
-          eq-eqb _ _ (h .first),
-          eq-eqb _ _ (h .second),
+          eq-eqb _ _ (h .taken),
           at-word (h .size) (h .same),
         )

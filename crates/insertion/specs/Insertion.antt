@@ -4,7 +4,7 @@ use Prim.Native.Nat.{ℕ, _+_, _<_, _≤_}
 use mathlib.Core.Path.{_≡_}
 use mathlib.Core.Bool.{true, false}
 use mathlib.Core.List.{List, [], _∷_, map}
-use mathlib.Core.Option.{none, some}
+use mathlib.Core.Option.{Option, none, some}
 use lib.ListN.{length, getD, take, getElem?}
 use lib.Dec.{eqb}
 use Rattle.memory.specs.declared.Pointer.{Pointer}
@@ -14,7 +14,9 @@ use Rattle.state.specs.declared.Fields.{Fields}
 use Rattle.state.specs.declared.State.{State}
 use Rattle.state.specs.State.{stateOf}
 use Rattle.start.specs.Top.{registered}
-use Rattle.row.specs.Row.{rowCall}
+use Rattle.row.specs.declared.RowAnswer.{RowAnswer}
+use Rattle.row.specs.declared.RowAnswer.the-variants as Row
+use Rattle.row.specs.Row.{Called, rowCall}
 use Rattle.frame.specs.Frame.{FrameRow, blank, frame}
 use Rattle.joining.specs.declared.Effect.{Effect}
 use Rattle.joining.specs.declared.Applied.{Applied}
@@ -49,9 +51,8 @@ pub record Insertion (latch : ℕ) (σ : Settings) (link : ℕ) (old new : List 
   -- no block, and so no link, is at the address 0; the link is changed to one that is not null
   pub held : eqb link 0 ≡ false
   pub points : null (pointerIn σ link new) ≡ false
-  -- "The new block takes over the old link"
-  pub first : wordAt new (pointerIn σ link new .address) ≡ wordAt old link
-  pub second : wordAt new (nextWord (σ .linear) (pointerIn σ link new .address)) ≡ wordAt old (nextWord (σ .linear) link)
+  -- "The new block takes over the old link": its first two words point where the old link did, whatever bits a pointer ignores
+  pub taken : pointerIn σ (pointerIn σ link new .address) new .address ≡ pointerIn σ link old .address
   -- "and no other words differ"
   pub size : length old ≡ length new
   pub same : (a : ℕ) → apart (changed σ link new) a ≡ true → wordAt old a ≡ wordAt new a
@@ -70,10 +71,18 @@ unfoldable pub joinedEffects : Settings → List ℕ → List State → Effect
 joinedEffects σ m [] = empty
 joinedEffects σ m (s ∷ ss) = join (effectCall σ m (s .fields) .effect) (joinedEffects σ m ss)
 
--- the cells of a row on some fields, "drawn from the latch that the joined effects give"
-abbrev pub drawnFrom : Settings → List ℕ → Fields → Applied → List ℕ
-drawnFrom σ m f (Latch l) = rowCall σ m (stateOf l f) blank .buffer
-drawnFrom σ m f (Refused r) = []
+-- the cells of a row call that is accepted
+abbrev pub cellsGiven : RowAnswer → List ℕ → Option (List ℕ)
+cellsGiven (Row.Accepted d) cells = some cells
+cellsGiven (Row.Refused r) cells = none
+
+abbrev pub cellsCalled : Called → Option (List ℕ)
+cellsCalled c = cellsGiven (c .answer) (c .buffer)
+
+-- .. on some fields, "drawn from the latch that the joined effects give"
+abbrev pub drawnFrom : Settings → List ℕ → Fields → Applied → Option (List ℕ)
+drawnFrom σ m f (Latch l) = cellsCalled (rowCall σ m (stateOf l f) blank)
+drawnFrom σ m f (Refused r) = none
 
 abbrev pub cellsOf : List FrameRow → List (List ℕ)
 cellsOf rs = map (λ (r : FrameRow). r .cells) rs
@@ -94,11 +103,11 @@ pub record Inserted (latch : ℕ) (σ : Settings) (link : ℕ) (old new : List �
   -- "the new row stands in its place": it is the new block's, from the latch that the rows above leave
   pub placed : let place = placeOf latch σ link old in
       (s : State) (r : FrameRow) → getElem? (states latch σ old) place ≡ some s → getElem? (frame latch σ new .rows) place ≡ some r
-      → r .cells ≡ drawnFrom σ new (withNext (pointerIn σ link new) (s .fields)) (Latch (s .latch))
+      → some (r .cells) ≡ drawnFrom σ new (withNext (pointerIn σ link new) (s .fields)) (Latch (s .latch))
   -- "each row below has the cells of the former row one higher, drawn from the latch that the joined effects give"
   pub below : let place = placeOf latch σ link old in
       (j : ℕ) (s : State) (r : FrameRow) → place ≤ j → getElem? (states latch σ old) j ≡ some s → getElem? (frame latch σ new .rows) (j + 1) ≡ some r
-      → r .cells ≡ drawnFrom σ old (s .fields) (apply (joinedEffects σ new (take (j + 1) (states latch σ new))) latch)
+      → some (r .cells) ≡ drawnFrom σ old (s .fields) (apply (joinedEffects σ new (take (j + 1) (states latch σ new))) latch)
   -- "If the new row's effect keeps the latch in both parts, they are the same cells."
   pub kept : let place = placeOf latch σ link old in
       ((s : State) → getElem? (states latch σ new) place ≡ some s → effectCall σ new (s .fields) .effect ≡ empty)

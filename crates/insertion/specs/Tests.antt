@@ -6,11 +6,11 @@ use mathlib.Core.Option.{Option, none, some}
 use lib.ListN.{length}
 use lib.Dec.{eqb, leb, ltb}
 use Rattle.memory.specs.declared.Refusal.{Refusal}
-use Rattle.memory.specs.Address.{null, nextWord}
+use Rattle.memory.specs.Address.{null}
 use Rattle.settings.specs.declared.Settings.{Settings}
 use Rattle.start.specs.Top.{registered}
 use Rattle.frame.specs.Frame.{frame}
-use Rattle.insertion.specs.Followed.{states, mainOf, wordAt, pointerIn, timesFollowed, blockWords, apart, allApart, readElse, noRedefinition}
+use Rattle.insertion.specs.Followed.{states, mainOf, pointerIn, timesFollowed, blockWords, apart, allApart, readElse, noRedefinition}
 use Rattle.insertion.specs.Insertion.{changed}
 
 unfoldable pub every : List Bool → Bool
@@ -44,8 +44,7 @@ abbrev pub bothTests : Settings → ℕ → List ℕ → List ℕ → List Bool
 bothTests σ link old new =
     let block = pointerIn σ link new .address in
     null (registered (σ .linear) (σ .tow)) ∷ not (σ .cursor) ∷ not (eqb link 0) ∷ not (null (pointerIn σ link new))
-    ∷ eqb (wordAt new block) (wordAt old link) ∷ eqb (wordAt new (nextWord (σ .linear) block)) (wordAt old (nextWord (σ .linear) link))
-    ∷ sameFrom (changed σ link new) 0 old new ∷ []
+    ∷ eqb (pointerIn σ block new .address) (pointerIn σ link old .address) ∷ sameFrom (changed σ link new) 0 old new ∷ []
 
 unfoldable pub passes : ℕ → Settings → ℕ → List ℕ → List ℕ → Bool
 passes latch σ link old new =

@@ -1,15 +1,21 @@
 -- What the row beside the cut leaves in its list: a law for each way through its definitions.
 use mathlib.Core.Path.{_≡_, refl, ap, ap₂, sym, _∙_}
+use mathlib.Core.Bool.{Bool, true, false}
 use mathlib.Core.List.{List, _++_}
 use Prim.Native.Nat.{ℕ, _+_, _≤_}
 use native.Mathlib.Omega.{arith}
+use lib.IntN.{ℤ, pos}
+use lib.Signed.{ltZ}
+use lib.Dec.{eqb}
 use lib.ListN.{length, length-append}
 use lib.Seq.{sets}
 use borrow.Author.Tests.{eq-eqb, ne-eqb}
+use Rattle.memory.specs.Word.{if_then_else_}
 use Rattle.memory.specs.declared.Refusal.{Refusal}
 use Rattle.memory.specs.Reading.{Reading, _>>=_, Outcome, given, refused, fault, refusal, run, asked}
 use Rattle.memory.proofs.Laws.{bind-given, bind-refused, after, run-after}
 use Rattle.memory.proofs.ReadBounds.{Words, reads-asked}
+use Rattle.settings.specs.declared.PointerWords.{PointerWords}
 use Rattle.settings.specs.declared.Settings.{Settings}
 use Rattle.state.specs.declared.State.{State}
 use Rattle.state.specs.State.{stateOf}
@@ -20,16 +26,16 @@ use Rattle.row.specs.declared.RowAnswer.{RowAnswer}
 use Rattle.row.specs.declared.RowAnswer.the-variants as Row
 use Rattle.row.proofs.RowBound.{row-reads}
 use Rattle.row.specs.Row.{Row, row, Called, called, answered, rowCall}
-use Rattle.beside.specs.declared.BesideAnswer.the-variants.{Refused}
-use Rattle.beside.specs.Beside.{told, withOneLine}
+use Rattle.beside.specs.declared.BesideAnswer.the-variants.{Absent, Refused}
+use Rattle.beside.specs.Beside.{told, BesideCalled, besideCalled, toldCall, withOneLine, rowBelow, withTop, rowAbove, besideCall}
 use Rattle.beside.proofs.BesideLaws as Beside
 use Rattle.addresses.specs.Addresses.{startAddresses}
 use Rattle.addresses.proofs.PlaceLaws.{sets-append}
 use Rattle.addresses.proofs.Asked.{asked-start}
-use Rattle.listed.specs.Listed.{listAfter, rowWith, rowListed}
+use Rattle.listed.specs.Listed.{listAfter, rowWith, calledWith, rowListed}
 use Rattle.listed.specs.Answers.{placed}
 use Rattle.listed.proofs.ListedLaws.{sets-written, words-asked, asked-bind, sets-before}
-use Rattle.listed_beside.specs.ListedBeside.{besideWith, toldListed, aboveWith, belowListed, aboveListed}
+use Rattle.listed_beside.specs.ListedBeside.{BesideListed, besideWith, toldListed, aboveWith, belowListed, aboveListed, besideListed}
 
 -- up
 pub below : (σ : Settings) (m : List ℕ) (last : State) (buffer l : List ℕ) {r : RowAnswer} {out k : List ℕ}
@@ -118,3 +124,42 @@ module _ (σ : Settings) (m : List ℕ) (latch : ℕ) (buffer l : List ℕ) (h :
       let given-by = start-given s (run m (startFrom latch σ)) d in
       rw (eq-eqb (length buffer) 132 h, eq-eqb (length l) 12000 k)
       (ap₂ aboveWith (Beside.above σ m buffer latch h d call) (f ∙ by-outcome σ m latch buffer l b s k few given-by (run m (row σ (s .state))) refl e))
+
+-- with a list of 12,000 places the answer and the second row buffer are those of the row beside the cut without one
+module _ (σ : Settings) (m : List ℕ) (latch : ℕ) (last : State) (buffer l : List ℕ) (places : length l ≡ 12000) where
+  abbrev withoutList : BesideListed → BesideCalled
+  withoutList x = besideCalled (x .answer) (x .buffer)
+
+  below-same : withoutList (belowListed σ m last buffer l) ≡ rowBelow σ m last buffer
+  unfolding belowListed rowBelow rowListed
+  below-same = rw (eq-eqb (length l) 12000 places) (by (eqb (length buffer) 132))
+    where
+      s : State
+      s = stateOf (last .latch) (withOneLine (last .fields))
+
+      by : (t : Bool) → withoutList (toldListed (if t then calledWith (rowCall σ m s buffer) (listAfter m (row σ s) l) else calledWith (rowCall σ m s buffer) l))
+          ≡ toldCall 0 (rowCall σ m s buffer)
+      by true = refl
+      by false = refl
+
+  above-same : withoutList (aboveListed σ m latch buffer l) ≡ rowAbove σ m latch buffer
+  unfolding aboveListed
+  above-same = rw (eq-eqb (length l) 12000 places) (by (eqb (length buffer) 132))
+    where
+      by : (t : Bool) → withoutList (if t then aboveWith (rowAbove σ m latch buffer) (listAfter m (startFrom latch σ >>= row σ) l) else aboveWith (rowAbove σ m latch buffer) l)
+          ≡ rowAbove σ m latch buffer
+      by true = refl
+      by false = refl
+
+pub without-list : (σ : Settings) (m : List ℕ) (shift : ℤ) (soft : PointerWords) (latch : ℕ) (last : State) (buffer l : List ℕ) → length l ≡ 12000
+    → besideCalled (besideListed σ m shift soft latch last buffer l .answer) (besideListed σ m shift soft latch last buffer l .buffer)
+    ≡ besideCall σ m shift soft latch last buffer
+unfolding besideListed besideCall
+without-list σ m shift soft latch last buffer l places = by (ltZ (pos 0) shift) (ltZ shift (pos 0))
+  where
+    by : (t u : Bool)
+        → (let x : BesideListed = if t then belowListed σ m last buffer l else if u then aboveListed (withTop σ soft) m latch buffer l else besideWith Absent buffer l in besideCalled (x .answer) (x .buffer))
+        ≡ (if t then rowBelow σ m last buffer else if u then rowAbove (withTop σ soft) m latch buffer else besideCalled Absent buffer)
+    by true u = below-same σ m latch last buffer l places
+    by false true = above-same (withTop σ soft) m latch last buffer l places
+    by false false = refl

@@ -44,7 +44,8 @@ pub fn is_character(code: u8) -> bool
     (0x20 <= code) & (code <= 0x7e)
 }
 
-// What stands before a cell with `marks` where the one before has the marks `before`, at the start of `out`; its length.
+// What stands before a cell with `marks` where the one before has the marks `before`, at the start of `out`; its length. What the bytes of
+// `out` past it are is left free.
 pub fn change(before: u8, marks: u8, out: &mut [u8; 12]) -> usize
     ensures { λ r. ⌜ (r ≤ 12) × (r ≤ length (now (out .exit))) × (take r (now (out .exit)) ≡ change before marks) ⌝ }
 {

@@ -1,6 +1,7 @@
--- The text of a list by a step of its mending.
+-- A call's answer and the text of a list, by a step of its mending.
 use mathlib.Core.Path.{_≡_, refl, sym, ap, subst, _∙_}
 use mathlib.Core.List.{List, _++_, append-assoc}
+use mathlib.Core.Option.{none, some}
 use Prim.Native.Nat.{ℕ, _<_}
 use Rattle.settings.specs.declared.Settings.{Settings}
 use Rattle.frame.specs.Frame.{frame}
@@ -14,14 +15,31 @@ use Rattle.mending.specs.declared.MendAnswer.{MendAnswer}
 use Rattle.mending.specs.declared.MendAnswer.the-variants.{Whole, Changed, Refused}
 use Rattle.mending.specs.Mending.{Stepped, stepped, byVerdict, mendStep, byStep, count, mended}
 use Rattle.mending.proofs.Steps.{Sixteen, mended-step}
+use Rattle.mend_text.specs.declared.ChangeLines.the-variants.{Written}
 use Rattle.mend_text.specs.MendText.{changeLine, changesText, mendedText}
-use Rattle.mend_text.specs.NextChange.{toMend, Writes}
+use Rattle.mend_text.specs.NextChange.{Given, given, byAnswer, nextChange, answered, toMend, Writes}
 
 -- the answer of a step that changes nothing
 abbrev pub Unchanged : MendAnswer → Type 0
 Unchanged Whole = Unit
 Unchanged (Changed c σ) = ⊥
 Unchanged (Refused r) = Unit
+
+-- a call's answer is a step's
+module _ (σ : Settings) (m : List ℕ) where
+  abbrev next-of : Stepped → Given
+  next-of s = byAnswer σ (s .answer) (s .memory)
+
+  pub changed-next : {c : Change} {σ₁ : Settings} {m₁ : List ℕ} (n : ℕ) (buffer : List ℕ) → Line (changeLine c) n buffer
+      → stepped (Changed c σ₁) m₁ ≡ mendStep 0 σ m → answered σ (Written n σ₁) m₁ buffer ≡ nextChange σ m
+  unfolding nextChange
+  changed-next {σ₁} {m₁} n buffer l e = ap (λ (t : List ℕ). given (some t) σ₁ m₁) (l .2) ∙ ap next-of e
+
+  pub unchanged-next : (x : MendAnswer) → Unchanged x → {m₁ : List ℕ} → stepped x m₁ ≡ mendStep 0 σ m → given none σ m₁ ≡ nextChange σ m
+  unfolding nextChange
+  unchanged-next Whole h e = ap next-of e
+  unchanged-next (Changed c σ₁) h e = absurd h
+  unchanged-next (Refused r) h e = ap next-of e
 
 module _ (σ : Settings) (m : List ℕ) (w : Sixteen σ m) where
   by-step : {s : Stepped} → s ≡ mendStep 0 σ m → toMend σ m ≡ mendedText (byStep (mended 0) σ s)

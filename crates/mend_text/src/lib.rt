@@ -2,9 +2,10 @@
 use mending::Change;
 use mending::MendAnswer;
 use settings::Settings;
+ghost use mathlib.Core.Path.{_≡_};
 ghost use Rattle.lines.specs.Lines.{Line};
 ghost use Rattle.mend_text.specs.MendText.{changeLine};
-ghost use Rattle.mend_text.specs.NextChange.{Next};
+ghost use Rattle.mend_text.specs.NextChange.{nextChange, answered, Next};
 
 // A line of `count` bytes, with the settings after its change; or that there is nothing more to mend.
 pub enum ChangeLines {
@@ -14,6 +15,7 @@ pub enum ChangeLines {
 
 // The next change of a list, and its line at the start of `out`. The frame is the first one that a console draws: from latch 0.
 pub fn next_change(settings: Settings, mem: &mut [u16], out: &mut [u8; 2048]) -> ChangeLines
+    ensures { λ r. ⌜ answered settings r (now (mem .exit)) (now (out .exit)) ≡ nextChange settings (now (mem .entry)) ⌝ }
     ensures { λ r. ⌜ Next settings (now (mem .entry)) r (now (mem .exit)) (now (out .exit)) ⌝ }
 {
     match mending::mend_step(settings, mem, 0) {

@@ -3,3 +3,4 @@ pub mod Steps
 pub mod Verdicts
 pub mod StartKept
 pub mod Mended
+pub mod Cases

@@ -1,4 +1,5 @@
--- The verdict is the frame's: whole where the frame is not refused, with its refusal's number, or its refusal, where it is.
+-- The verdict is the frame's: whole where the frame is not refused, with its refusal's number, or its refusal, where it is. The pointer that
+-- it blames for a 7 begins where the refusal tells.
 use mathlib.Core.Path.{_≡_, refl, sym, ap, _∙_}
 use mathlib.Core.Bool.{Bool, true, false}
 use mathlib.Core.List.{List}
@@ -23,20 +24,29 @@ use Rattle.blame.specs.declared.Place.the-variants.{Register}
 use Rattle.blame.specs.declared.Verdict.{Verdict}
 use Rattle.blame.specs.declared.Verdict.the-variants.{Whole, Blamed, Refused}
 use Rattle.blame.specs.Blame.{leader, blamed, mendable, refusedRow, nextState, byRow, rowsWithin, rows, mainOf, byStart, verdict}
-use Rattle.blame.proofs.Frames.{start-refused}
+use Rattle.blame.proofs.Frames.{start-refused, tow-told}
+use Rattle.mending.specs.Mending.{placeAddress}
 use Rattle.mending.proofs.Steps.{Sixteen}
 
 pub data SameAs : Verdict → Option Refusal → Type 0 where
   same-whole : SameAs Whole none
-  same-blamed : {p : Place} {n : ℕ} {r : Refusal} → r .number ≡ n → SameAs (Blamed p n) (some r)
+  same-blamed : {p : Place} {n : ℕ} {r : Refusal} → r .number ≡ n → (r .number ≡ 7 → placeAddress p ≡ r .from) → SameAs (Blamed p n) (some r)
   same-refused : {r : Refusal} → SameAs (Refused r) (some r)
+
+-- where the pointer to blame for a 7 begins
+row-from : (led : Place) (number : ℕ) (x : Fault) → x .number ≡ 7 → placeAddress (blamed led x) ≡ refusal number x .from
+unfolding blamed
+row-from led number x h = rw h
+
+tow-from : (number : ℕ) (x : Fault) → x .from ≡ 0 → x .number ≡ 7 → 0 ≡ refusal number x .from
+tow-from number x e h = rw (h, e)
 
 module _ (σ : Settings) (m : List ℕ) where
   refused-same : (led : Place) (number : ℕ) (x : Fault) → SameAs (refusedRow led number x) (some (refusal number x))
   refused-same led number x = by (mendable (x .number))
     where
       by : (t : Bool) → SameAs (if t then Blamed (blamed led x) (x .number) else Refused (refusal number x)) (some (refusal number x))
-      by true = same-blamed refl
+      by true = same-blamed refl (row-from led number x)
       by false = same-refused
 
   -- the row call that a frame makes
@@ -67,11 +77,12 @@ module _ (σ : Settings) (m : List ℕ) where
   unfolding verdict frame begin rows rest
   frame-same latch w = by-main (run m (mainOf σ)) refl
     where
-      by-start : (n : ℕ) (k : MainBlock) (o : Outcome State) → SameAs (byStart σ m (given n k) o) (fromBegin σ m (begun (started o)) .refusal)
-      by-start n k (given j s) = rows-same _ Register (record { state = s; words = j })
-      by-start n k (refused x) = same-blamed refl
+      by-start : (n : ℕ) (k : MainBlock) → run m (mainOf σ) ≡ given n k → (o : Outcome State) → run m (startFrom latch σ) ≡ o
+          → SameAs (byStart σ m (given n k) o) (fromBegin σ m (begun (started o)) .refusal)
+      by-start n k e (given j s) h = rows-same _ Register (record { state = s; words = j })
+      by-start n k e (refused x) h = same-blamed refl (tow-from 0 x (tow-told σ m (w .words) (w .registers) latch e h))
 
       by-main : (o : Outcome MainBlock) → run m (mainOf σ) ≡ o
           → SameAs (byStart σ m o (run m (startFrom latch σ))) (fromBegin σ m (begun (started (run m (startFrom latch σ)))) .refusal)
       by-main (refused x) e = rw (start-refused σ m (w .words) (w .registers) latch e) same-refused
-      by-main (given n k) e = by-start n k (run m (startFrom latch σ))
+      by-main (given n k) e = by-start n k e (run m (startFrom latch σ)) refl

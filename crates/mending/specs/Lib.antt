@@ -1,2 +1,4 @@
 pub mod Mending
 pub mod Answers
+pub mod Mendings
+pub mod Cases

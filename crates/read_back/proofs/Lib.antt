@@ -4,4 +4,5 @@ pub mod Cells
 pub mod Rows
 pub mod States
 pub mod Effects
+pub mod Scrolls
 pub mod Theorem

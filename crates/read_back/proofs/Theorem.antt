@@ -1,4 +1,4 @@
--- What the calls wrote is read back as it was: the laws of States and Effects, on numbers of lent slices.
+-- What the calls wrote is read back as it was: the laws of States, Effects and Scrolls, on numbers of lent slices.
 use mathlib.Core.List.{List}
 use Prim.Native.Nat.{ℕ}
 use Rattle.joining.specs.declared.Effect.{Effect}
@@ -6,6 +6,7 @@ use Rattle.effects.proofs.EffectAgain.{effect-again}
 use Rattle.read_back.specs.ReadBack.{Words, Made, none, made, joined, ReadBack}
 use Rattle.read_back.proofs.States.{read-fits, settings-fit, start-back, row-back, fields-back}
 use Rattle.read_back.proofs.Effects.{EffectFits, effect-fits, join-fits}
+use Rattle.read_back.proofs.Scrolls.{shift-back}
 
 module _ (m : List ℕ) (b : Words m) where
   made-fits : {e : Effect} → Made m e → EffectFits e
@@ -19,4 +20,5 @@ module _ (m : List ℕ) (b : Words m) where
     row = λ state buffer list σ {s} n h. row-back m b σ s (read-fits state n h) buffer list;
     fields = λ state σ {s} n h. fields-back m b σ (s .fields) (read-fits state n h .fields);
     effect = λ {e} h. let k = made-fits h in effect-again e (k .0) (k .1);
+    shift = λ σ soft last. shift-back σ m b soft last;
   }

@@ -1,8 +1,9 @@
--- A state or an effect that a call wrote is read back as it was.
+-- A state, an effect or a scroll that a call wrote is read back as it was.
 use Prim.Native.Nat.{ℕ, _≤_, _<_}
 use mathlib.Core.Path.{_≡_}
-use mathlib.Core.List.{List}
+use mathlib.Core.List.{List, [], _∷_}
 use lib.ListN.{getD}
+use Rattle.settings.specs.declared.PointerWords.{PointerWords}
 use Rattle.settings.specs.declared.Settings.{Settings}
 use Rattle.state.specs.declared.State.{State}
 use Rattle.state.specs.State.{stateOf}
@@ -11,6 +12,11 @@ use Rattle.start.specs.declared.StartAnswer.the-variants as Start
 use Rattle.row.specs.declared.RowAnswer.{RowAnswer}
 use Rattle.row.specs.declared.RowAnswer.the-variants as Row
 use Rattle.listed.specs.Listed.{startListed, rowListed}
+use Rattle.scroll.specs.declared.Scroll.{Scroll}
+use Rattle.scroll.specs.declared.ShiftAnswer.{ShiftAnswer}
+use Rattle.scroll.specs.declared.ShiftAnswer.the-variants as Shift
+use Rattle.scroll.specs.Scroll.{shiftCall}
+use Rattle.shifts.specs.AfterShift.{scrollNumbers, scrollOf, afterShift}
 use Rattle.joining.specs.declared.Effect.{Effect}
 use Rattle.joining.specs.Join.{empty, join}
 use Rattle.effect.specs.declared.NextFields.{NextFields}
@@ -51,6 +57,11 @@ abbrev pub FieldsBack : NextFields → Type 0
 FieldsBack (Reached f) = (latch : ℕ) → latch < 65536 → StateBack (stateOf latch f)
 FieldsBack Unreached = Unit {0}
 
+-- the scroll of an accepted shift call
+abbrev pub ShiftBack : ShiftAnswer → Type 0
+ShiftBack (Shift.Accepted s) = scrollOf (scrollNumbers (s .scroll)) ≡ s .scroll
+ShiftBack (Shift.Refused r) = Unit {0}
+
 -- on the settings and on a state that slices of numbers have, and a memory
 module _ (m : List ℕ) where
   -- effects of rows of such states, and these joined
@@ -68,3 +79,34 @@ module _ (m : List ℕ) where
     pub fields : (state : List ℕ) (σ : Settings) {s : State} → Numbers state → stateIn state ≡ State-in.Fit s
         → FieldsBack (effectCall σ m (s .fields) .next)
     pub effect : {e : Effect} → Made e → EffectBack e
+    pub shift : (σ : Settings) (soft : PointerWords) (last : Scroll) → ShiftBack (shiftCall σ m soft last)
+
+-- ---- shift calls in a row ----
+
+-- what one of them is lent, besides the scroll and its answer
+pub record Shifting : Type 0 where
+  pub settings : Settings
+  pub memory : List ℕ
+  pub words : Words memory
+  pub soft : PointerWords
+
+-- each from the last ones: a refused call changes nothing
+abbrev pub scrollAfter : Scroll → ShiftAnswer → Scroll
+scrollAfter last (Shift.Accepted s) = s .scroll
+scrollAfter last (Shift.Refused r) = last
+
+unfoldable pub inRow : List Shifting → Scroll → List ShiftAnswer
+inRow [] last = []
+inRow (c ∷ cs) last =
+    let a : ShiftAnswer = shiftCall (c .settings) (c .memory) (c .soft) last in
+    a ∷ inRow cs (scrollAfter last a)
+
+-- .. and each from the three numbers that the one before left, as `thagaduvin_shift` reads and leaves them
+unfoldable pub inRowByNumbers : List Shifting → List ℕ → List ShiftAnswer
+inRowByNumbers [] ns = []
+inRowByNumbers (c ∷ cs) ns =
+    let a : ShiftAnswer = shiftCall (c .settings) (c .memory) (c .soft) (scrollOf ns) in
+    a ∷ inRowByNumbers cs (afterShift ns [] a .state)
+
+abbrev pub SameInRow : Type 0
+SameInRow = (cs : List Shifting) (ns : List ℕ) → inRowByNumbers cs ns ≡ inRow cs (scrollOf ns)

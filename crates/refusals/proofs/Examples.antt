@@ -31,10 +31,10 @@ use Rattle.scroll.specs.declared.Scroll.{Scroll}
 use Rattle.scroll.specs.Scroll as Shift
 use Rattle.start.specs.Start.{firstFields, windowStart, startFrom, startCall}
 use Rattle.effect.specs.Effect.{outcomeFor, effectCall}
-use Rattle.refusals.specs.Refusals.{sheetNumbers, startNumbers, shiftNumbers, effectNumbers, rowNumbers, ofSheet, ofStart, ofShift, ofRow, ofPart, has}
+use Rattle.refusals.specs.Refusals.{sheetNumbers, startNumbers, shiftNumbers, effectNumbers, rowNumbers, ofSheet, ofStart, ofShift, ofRow, ofPart}
 
 -- settings, linear or segmented, with these second words of TOP and TOW, and this VAL; 0 is not above VSD
-pub mode : Bool → ℕ → ℕ → ℕ → Settings
+unfoldable pub mode : Bool → ℕ → ℕ → ℕ → Settings
 mode linear top tow val = record {
   linear = linear;
   hidden = false;
@@ -54,21 +54,21 @@ mode linear top tow val = record {
   edition = Am8052;
 }
 
-pub settings : ℕ → ℕ → ℕ → Settings
+unfoldable pub settings : ℕ → ℕ → ℕ → Settings
 settings top tow val = mode true top tow val
 
-pub segmented : Settings
+unfoldable pub segmented : Settings
 segmented = mode false 2 0 16
 
-pub plain : Settings
+unfoldable pub plain : Settings
 plain = settings 2 0 16
 
 -- VAL 0, and segmented too: 17 comes "just after 2"
-pub bad : Settings
+unfoldable pub bad : Settings
 bad = mode false 2 0 0
 
 -- row 1 of a state with these lines left, its block at 2, the fill flag set
-pub fields : ℕ → WindowInHand → Fields
+unfoldable pub fields : ℕ → WindowInHand → Fields
 fields left w = record {
   row = 1;
   left = left;
@@ -80,12 +80,12 @@ fields left w = record {
 }
 
 -- a window on the rows top to bottom, columns 1 and 2, with its row block and the next window block at these addresses
-window : ℕ → ℕ → ℕ → ℕ → WindowInHand
+unfoldable pub window : ℕ → ℕ → ℕ → ℕ → WindowInHand
 window top bottom rows link =
     Present (record { block = record { number = 0; top = top; bottom = bottom; left = 1; right = 2; link = to 0 link }; rows = to 0 rows })
 
 -- a memory with a row block of one segment at 2: its code pointer, its attribute pointer, L and V in one word
-block : ℕ → ℕ → ℕ → List ℕ
+unfoldable pub block : ℕ → ℕ → ℕ → List ℕ
 block code list lengths = 0 ∷ 0 ∷ 0 ∷ 1 ∷ 0 ∷ code ∷ 0 ∷ list ∷ lengths ∷ []
 
 -- what is handed to a row or an effect call
@@ -94,21 +94,27 @@ pub record Call : Type 0 where
   pub memory : List ℕ
   pub fields : Fields
 
-call : Settings → List ℕ → Fields → Call
+unfoldable pub call : Settings → List ℕ → Fields → Call
 call σ m f = record { settings = σ; memory = m; fields = f }
 
-pub calls : List Call
-calls =
-    -- 2: VAL 0. 17: segmented. 3: row 1 and 4095 lines. 4: no line
-    call bad [] (fields 1 Absent) ∷ call segmented [] (fields 1 Absent) ∷ call plain [] (fields 4095 Absent) ∷ call plain [] (fields 0 Absent)
+-- 2: VAL 0. 17: segmented
+unfoldable pub unset : List Call
+unset = call bad [] (fields 1 Absent) ∷ call segmented [] (fields 1 Absent) ∷ []
+
+unfoldable pub undrawn : List Call
+undrawn =
     -- 7: no word. 8: the window of row 0 has passed, and the next one's first row, 1, is past its last, 0
-    ∷ call plain [] (fields 1 Absent) ∷ call plain (0 ∷ 0 ∷ 0 ∷ 0 ∷ 0 ∷ 0x100 ∷ 0 ∷ []) (fields 1 (window 0 0 0 2))
+    call plain [] (fields 1 Absent) ∷ call plain (0 ∷ 0 ∷ 0 ∷ 0 ∷ 0 ∷ 0x100 ∷ 0 ∷ []) (fields 1 (window 0 0 0 2))
     -- 9: V 1, L 0. 10: width 133
     ∷ call plain (block 2 0 1) (fields 1 Absent) ∷ call plain (block 0 0 133) (fields 1 Absent)
     -- 11: width 3 in a window of 2 columns. 12: its first column inside a segment of width 2
     ∷ call plain (block 0 0 3) (fields 1 (window 1 1 2 0)) ∷ call plain (block 0 0 2) (fields 1 (window 1 1 0 0))
     -- 13: the fill word is 0
     ∷ call plain (block 0 2 1) (fields 1 Absent) ∷ []
+
+-- and between them 3: row 1 and 4095 lines. 4: no line
+pub calls : List Call
+calls = unset ++ call plain [] (fields 4095 Absent) ∷ call plain [] (fields 0 Absent) ∷ undrawn
 
 -- the numbers that these calls answer: of rows with a buffer of 132 cells, of both parts of effects
 pub rowsOf : List Call → List ℕ
@@ -129,7 +135,7 @@ unfolding mode settings segmented bad sheetCall good
 sheets = refl
 
 -- a main block at 2, whose M4 has enable and window
-pub scrolling : List ℕ
+unfoldable pub scrolling : List ℕ
 scrolling = 0 ∷ 0 ∷ 0 ∷ 0 ∷ 0 ∷ 0x5000 ∷ 0 ∷ 0 ∷ []
 
 -- VAL 0; segmented; TOP null; no word; M4 with enable and window; a window whose first row, 1, is past its last, 0
@@ -151,13 +157,9 @@ shifts = refl
 
 -- 131 cells, then the calls above
 pub rows : ofRow (rowCall plain [] (S.stateOf 0 (fields 1 Absent)) (replicate 131 0) .answer) ++ rowsOf calls ≡ rowNumbers
-unfolding mode settings segmented bad plain fields window block call calls rowsOf good checkSettings pointer nextWord ahead words readAs _>>=_ each runFrom segmentOf segmentsAt segmentRoles restOfBlock blockAt rowBlockAt windowRowAt redefined W.windowOf W.windowAt W.dueWindow S.windowInRange S.inRange width total allFit boundary edgesFit windowRow overlaid nextFields backgroundBlock backgroundRow plan codes fillByWord fillTo segment segmentsTo rowCells row rowCall
+unfolding mode settings segmented bad plain fields window block call unset undrawn calls rowsOf good checkSettings pointer nextWord ahead words readAs _>>=_ each runFrom segmentOf segmentsAt segmentRoles restOfBlock blockAt rowBlockAt windowRowAt redefined W.windowOf W.windowAt W.dueWindow S.windowInRange S.inRange width total allFit boundary edgesFit windowRow overlaid nextFields backgroundBlock backgroundRow plan codes fillByWord fillTo segment segmentsTo rowCells row rowCall
 rows = refl
 
 pub effects : (clearOf calls ≡ effectNumbers) × (setOf calls ≡ effectNumbers)
-unfolding mode settings segmented bad plain fields window block call calls clearOf setOf good checkSettings pointer nextWord ahead words readAs _>>=_ each runFrom segmentOf segmentsAt segmentRoles restOfBlock blockAt rowBlockAt windowRowAt redefined W.windowOf W.windowAt W.dueWindow S.windowInRange S.inRange width total allFit boundary edgesFit windowRow overlaid nextFields backgroundBlock backgroundRow plan codes fillByWord fillTo segment segmentsTo rowCells row outcomeFor effectCall
+unfolding mode settings segmented bad plain fields window block call unset undrawn calls clearOf setOf good checkSettings pointer nextWord ahead words readAs _>>=_ each runFrom segmentOf segmentsAt segmentRoles restOfBlock blockAt rowBlockAt windowRowAt redefined W.windowOf W.windowAt W.dueWindow S.windowInRange S.inRange width total allFit boundary edgesFit windowRow overlaid nextFields backgroundBlock backgroundRow plan codes fillByWord fillTo segment segmentsTo rowCells row outcomeFor effectCall
 effects = (refl, refl)
-
--- "5 withdrawn, its number unused"
-pub unused : has 5 (sheetNumbers ++ startNumbers ++ shiftNumbers ++ rowNumbers ++ effectNumbers) ≡ false
-unused = refl

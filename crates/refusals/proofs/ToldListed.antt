@@ -1,11 +1,11 @@
 -- The same of starts and rows with a list, which add 25, and of the writer call; and an example of each number that they add.
 use mathlib.Core.Path.{_≡_, refl}
-use mathlib.Core.Bool.{Bool, true, false, _&&_, _||_}
+use mathlib.Core.Bool.{true}
 use mathlib.Core.List.{List, [], _∷_, _++_}
 use Prim.Native.Nat.{ℕ}
 use lib.ListN.{length, replicate}
 use lib.Dec.{eqb}
-use Rattle.memory.proofs.ReadBounds.{if-cases, both}
+use Rattle.memory.proofs.ReadBounds.{if-cases}
 use Rattle.settings.specs.declared.Settings.{Settings}
 use Rattle.state.specs.declared.State.{State}
 use Rattle.start.specs.Start.{startCall}
@@ -13,39 +13,31 @@ use Rattle.row.specs.Row.{rowCall}
 use Rattle.listed.specs.Listed.{StartListed, startListed, RowListed, rowListed}
 use Rattle.writer.specs.declared.Span.{Span}
 use Rattle.writer.specs.Writer.{share, mayWrite, Wrote, writeWord}
-use Rattle.refusals.specs.Refusals.{startNumbers, effectNumbers, rowNumbers, startListedNumbers, rowListedNumbers, writerNumbers, ofStart, ofRow, ofWrite, has, within}
-use Rattle.refusals.proofs.Told.{more-told, start-told, row-told}
+use Rattle.refusals.specs.Refusals.{startNumbers, startListedNumbers, rowListedNumbers, writerNumbers, ofStart, ofRow, ofWrite, within}
+use Rattle.refusals.proofs.Refuses.{within-more}
+use Rattle.refusals.proofs.Told.{Lists, any-state, start-told, row-told-by}
 use Rattle.refusals.proofs.Examples.{plain}
-
--- a longer list has what a shorter one has
-more : (ns ms xs : List ℕ) → ((n : ℕ) → has n ns ≡ true → has n ms ≡ true) → within xs ns ≡ true → within xs ms ≡ true
-more ns ms [] f h = refl
-more ns ms (x ∷ xs) f h = let e = both (has x ns) (within xs ns) h in rw (f x (e .0)) (more ns ms xs f (e .1))
-
--- one number more after the first
-after-first : (j k : ℕ) (ns : List ℕ) (n : ℕ) → has n (j ∷ ns) ≡ true → has n (j ∷ k ∷ ns) ≡ true
-after-first j k ns n = by-first (eqb n j)
-  where
-    by-first : (t : Bool) → t || has n ns ≡ true → t || has n (k ∷ ns) ≡ true
-    by-first true h = refl
-    by-first false h = more-told k ns n h
 
 pub start-listed-told : (latch : ℕ) (σ : Settings) (m list : List ℕ) → within (ofStart (startListed latch σ m list .answer)) startListedNumbers ≡ true
 unfolding startListed
 start-listed-told latch σ m list =
     if-cases (λ (x : StartListed). within (ofStart (x .answer)) startListedNumbers ≡ true) (eqb (length list) 12000)
-    (λ _. more startNumbers startListedNumbers (ofStart (startCall latch σ m)) (more-told 25 startNumbers) (start-told latch σ m)) (λ _. refl)
+    (λ _. within-more startNumbers startListedNumbers refl (ofStart (startCall latch σ m)) (start-told latch σ m)) (λ _. refl)
+
+pub row-listed-by : (ns : List ℕ) → within (1 ∷ 25 ∷ 2 ∷ 17 ∷ 7 ∷ []) ns ≡ true → (σ : Settings) (m : List ℕ) (s : State) (buffer list : List ℕ)
+    → Lists ns (s .fields) → within (ofRow (rowListed σ m s buffer list .answer)) ns ≡ true
+unfolding rowListed
+row-listed-by ns h σ m s buffer list l =
+    let told = row-told-by ns (within-more (1 ∷ 25 ∷ 2 ∷ 17 ∷ 7 ∷ []) ns h (1 ∷ 2 ∷ 17 ∷ 7 ∷ []) refl) σ m s buffer l in
+    if-cases Told (eqb (length buffer) 132)
+    (λ _. if-cases Told (eqb (length list) 12000) (λ _. told) (λ _. within-more (1 ∷ 25 ∷ 2 ∷ 17 ∷ 7 ∷ []) ns h (25 ∷ []) refl)) (λ _. told)
+  where
+    Told : RowListed → Type 0
+    Told x = within (ofRow (x .answer)) ns ≡ true
 
 pub row-listed-told : (σ : Settings) (m : List ℕ) (s : State) (buffer list : List ℕ)
     → within (ofRow (rowListed σ m s buffer list .answer)) rowListedNumbers ≡ true
-unfolding rowListed
-row-listed-told σ m s buffer list =
-    if-cases (λ (x : RowListed). within (ofRow (x .answer)) rowListedNumbers ≡ true) (eqb (length buffer) 132)
-    (λ _. if-cases (λ (x : RowListed). within (ofRow (x .answer)) rowListedNumbers ≡ true) (eqb (length list) 12000) (λ _. told) (λ _. refl))
-    (λ _. told)
-  where
-    told : within (ofRow (rowCall σ m s buffer .answer)) rowListedNumbers ≡ true
-    told = more rowNumbers rowListedNumbers (ofRow (rowCall σ m s buffer .answer)) (after-first 1 25 effectNumbers) (row-told σ m s buffer)
+row-listed-told σ m s buffer list = row-listed-by rowListedNumbers refl σ m s buffer list (any-state refl (s .fields))
 
 pub write-told : (m : List ℕ) (own other : Span) (a w : ℕ) → within (ofWrite (writeWord m own other a w .answer)) writerNumbers ≡ true
 unfolding writeWord

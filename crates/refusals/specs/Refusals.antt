@@ -22,6 +22,12 @@ use Rattle.mail_reader.specs.declared.ReadAnswer.the-variants as Read
 use Rattle.joining.specs.declared.Part.{Part}
 use Rattle.joining.specs.declared.Part.the-variants.{Keep, Set, Refuse}
 use Rattle.effect.specs.declared.EffectAnswer.{EffectAnswer}
+use Rattle.beside.specs.declared.BesideAnswer.{BesideAnswer}
+use Rattle.beside.specs.declared.BesideAnswer.the-variants as Beside
+use Rattle.mending.specs.declared.MendAnswer.{MendAnswer}
+use Rattle.mending.specs.declared.MendAnswer.the-variants as Mend
+use Rattle.converter.specs.declared.ConvertAnswer.{ConvertAnswer}
+use Rattle.converter.specs.declared.ConvertAnswer.the-variants as Convert
 
 -- "The settings sheet gives these, or refusal 2"
 abbrev pub sheetNumbers : List ℕ
@@ -36,10 +42,14 @@ startNumbers = 2 ∷ 17 ∷ 6 ∷ 7 ∷ 14 ∷ 8 ∷ []
 abbrev pub shiftNumbers : List ℕ
 shiftNumbers = 2 ∷ 17 ∷ 3 ∷ 6 ∷ 7 ∷ 14 ∷ []
 
--- An effect "takes a row's checks but 1": 2 to 4; "a due window (7, 8); the whole row block, then its redefinition (7), 9, 10; window
+-- A row once its settings and its state are checked: "a due window (7, 8); the whole row block, then its redefinition (7), 9, 10; window
 -- row block (7), 9, 11; 12; then cells as met (7, 13)".
+abbrev pub drawingNumbers : List ℕ
+drawingNumbers = 7 ∷ 8 ∷ 9 ∷ 10 ∷ 11 ∷ 12 ∷ 13 ∷ []
+
+-- An effect "takes a row's checks but 1": 2 to 4, and the drawing's.
 abbrev pub effectNumbers : List ℕ
-effectNumbers = 2 ∷ 17 ∷ 3 ∷ 4 ∷ 7 ∷ 8 ∷ 9 ∷ 10 ∷ 11 ∷ 12 ∷ 13 ∷ []
+effectNumbers = 2 ∷ 17 ∷ 3 ∷ 4 ∷ drawingNumbers
 
 abbrev pub rowNumbers : List ℕ
 rowNumbers = 1 ∷ effectNumbers
@@ -50,6 +60,20 @@ startListedNumbers = 25 ∷ startNumbers
 
 abbrev pub rowListedNumbers : List ℕ
 rowListedNumbers = 1 ∷ 25 ∷ effectNumbers
+
+-- 02, of the row beside the cut, which has a list: it comes "under the same rules", a row's "up", and "down .. row 0 of a start there", which
+-- adds 6 and 14. It never meets 4: up it is "given one line", and a start's state has lines.
+abbrev pub besideNumbers : List ℕ
+besideNumbers = 1 ∷ 25 ∷ 2 ∷ 17 ∷ 3 ∷ 6 ∷ 14 ∷ drawingNumbers
+
+-- 02, of mending: "2, 6, 14, 17 and 7 on a main block, met at any start, are given as they are"; every other refusal blames a pointer
+abbrev pub mendNumbers : List ℕ
+mendNumbers = 2 ∷ 17 ∷ 6 ∷ 7 ∷ 14 ∷ []
+
+-- 02, of the converter: "22, another number of marks, first; 26, linear settings, after 2; 18 .. 19 .. and the drawing's own, as the walk
+-- meets them". It never meets 3: a start's and its rows' states are in range, which is proved of linear ones (`blame`), and here 3 is kept.
+abbrev pub convertNumbers : List ℕ
+convertNumbers = 22 ∷ 2 ∷ 26 ∷ 18 ∷ 19 ∷ 6 ∷ 14 ∷ 3 ∷ drawingNumbers
 
 -- 02, of a writer call: "15, write to an odd address or outside the desk's span or memory, nothing written; 16, spans that share an
 -- address, before 15"
@@ -108,6 +132,20 @@ ofPart (Refuse r) = r .number ∷ []
 
 abbrev pub ofEffect : EffectAnswer → List ℕ
 ofEffect e = ofPart (e .effect .clear) ++ ofPart (e .effect .set)
+
+abbrev pub ofBeside : BesideAnswer → List ℕ
+ofBeside Beside.Absent = []
+ofBeside (Beside.Drawn d) = []
+ofBeside (Beside.Refused r) = r .number ∷ []
+
+abbrev pub ofMend : MendAnswer → List ℕ
+ofMend Mend.Whole = []
+ofMend (Mend.Changed c σ) = []
+ofMend (Mend.Refused r) = r .number ∷ []
+
+abbrev pub ofConvert : ConvertAnswer → List ℕ
+ofConvert (Convert.Accepted c) = []
+ofConvert (Convert.Refused r) = r .number ∷ []
 
 -- whether a list has a number, and whether it has all of another's
 abbrev pub has : ℕ → List ℕ → Bool

@@ -6,7 +6,7 @@ use Prim.Native.Nat.{ℕ, zero, suc, _+_, _%_, _≤_, _<_}
 use native.Mathlib.Nat.{mod-lt, zero-div, zero-mod, zero-mul}
 use native.Mathlib.Numerals.{add-one}
 use native.Mathlib.Omega.{arith}
-use lib.IntN.{ℤ, pos, negsuc, negℤ, natAbs}
+use lib.IntN.{ℤ, pos, negsuc, negℤ}
 use lib.Dec.{leb, eqb}
 use borrow.Author.Tests.{eq-eqb, ne-eqb, le-leb, lt-leb}
 use Rattle.memory.specs.Reading.{given, run}
@@ -23,10 +23,10 @@ use Rattle.scroll.specs.declared.FrameShift.{FrameShift}
 use Rattle.scroll.specs.declared.ShiftAnswer.{ShiftAnswer}
 use Rattle.scroll.specs.declared.ShiftAnswer.the-variants.{Accepted, Refused}
 use Rattle.scroll.specs.Rate.{rate}
-use Rattle.scroll.specs.Scroll.{signed, directionOf, inRange, fromLast, moved, shifted, still, reached, edgeLines, shiftBy, shiftFrom, shift, shiftAnswered, shiftCall}
+use Rattle.scroll.specs.Scroll.{directionOf, inRange, fromLast, moved, shifted, still, reached, edgeLines, shiftBy, shiftFrom, shift, shiftAnswered, shiftCall}
 use Rattle.scroll.specs.Answers.{linesRead, Small}
 use Rattle.scroll.proofs.ShiftLaws.{disabled, row-read, top-read, settings-passed, RateBounds, rate-bounds}
-use Rattle.scroll.proofs.ShiftBound.{again}
+use Rattle.scroll.proofs.ShiftBound.{again, lines-back}
 use Rattle.scroll.proofs.Rates.{gone, callsOf, gone-more, not-yet, then-ends}
 
 -- ---- one call ----
@@ -49,11 +49,6 @@ goes-on up n hard soft g h = rw (lt-leb n (g .lines) h)
 from-turned : (up : Bool) (s : Scroll) → (s .direction ≡ directionOf up → ⊥) → fromLast up s ≡ still
 unfolding fromLast
 from-turned up s k = rw (ne-eqb (s .direction) (directionOf up) k)
-
-lines-back : (up : Bool) (n : ℕ) → natAbs (signed up n) ≡ n
-lines-back true n = refl
-lines-back false zero = refl
-lines-back false (suc n) = refl
 
 from-same : (up : Bool) (g : Offset) (top : PointerWords) → fromLast up (shifted up g top .scroll) ≡ g
 unfolding fromLast

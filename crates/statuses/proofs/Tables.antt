@@ -23,7 +23,18 @@ use Rattle.writer.specs.declared.WriteAnswer.{WriteAnswer}
 use Rattle.writer.specs.declared.WriteAnswer.the-variants as Write
 use Rattle.writer.specs.Writer.{status}
 use Rattle.answers.specs.AfterCall.{afterSheet, afterStart, rowAnswered}
-use Rattle.refusals.specs.Refusals.{ofSheet, ofStart, ofRow, ofWrite, ofBus, ofWritten, ofRead, has, within}
+use Rattle.scroll.specs.declared.ShiftAnswer.{ShiftAnswer}
+use Rattle.scroll.specs.declared.ShiftAnswer.the-variants as Shift
+use Rattle.beside.specs.declared.BesideAnswer.{BesideAnswer}
+use Rattle.beside.specs.declared.BesideAnswer.the-variants as Beside
+use Rattle.shifts.specs.AfterShift.{afterShift, besideAnswered}
+use Rattle.mending.specs.declared.MendAnswer.{MendAnswer}
+use Rattle.mending.specs.declared.MendAnswer.the-variants as Mend
+use Rattle.thagaduvin_mend.specs.MendCalls as Mending
+use Rattle.converter.specs.declared.ConvertAnswer.{ConvertAnswer}
+use Rattle.converter.specs.declared.ConvertAnswer.the-variants as Convert
+use Rattle.thagaduvin_convert.specs.ConvertCalls as Converting
+use Rattle.refusals.specs.Refusals.{ofSheet, ofStart, ofShift, ofRow, ofBeside, ofMend, ofConvert, ofWrite, ofBus, ofWritten, ofRead, has, within}
 use Rattle.refusals.proofs.Told.{more-told}
 use Rattle.statuses.specs.Statuses.{Status}
 
@@ -58,3 +69,21 @@ module _ (ns : List ℕ) where
   pub of-write : (a : WriteAnswer) → within (ofWrite a) ns ≡ true → Status ns (status a)
   of-write Write.Written h = refl
   of-write (Write.Refused r) h = one (r .number) h
+
+  pub of-shift : (scroll answer : List ℕ) (a : ShiftAnswer) → within (ofShift a) ns ≡ true → Status ns (afterShift scroll answer a .status)
+  of-shift scroll answer (Shift.Accepted s) h = refl
+  of-shift scroll answer (Shift.Refused r) h = one (r .number) h
+
+  pub of-beside : (cells list answer : List ℕ) (a : BesideAnswer) → within (ofBeside a) ns ≡ true → Status ns (besideAnswered cells list answer a .status)
+  of-beside cells list answer Beside.Absent h = refl
+  of-beside cells list answer (Beside.Drawn d) h = refl
+  of-beside cells list answer (Beside.Refused r) h = one (r .number) h
+
+  pub of-mend : (settings answer m : List ℕ) (a : MendAnswer) → within (ofMend a) ns ≡ true → Status ns (Mending.byAnswer settings answer m a .status)
+  of-mend settings answer m Mend.Whole h = refl
+  of-mend settings answer m (Mend.Changed c σ) h = refl
+  of-mend settings answer m (Mend.Refused r) h = one (r .number) h
+
+  pub of-convert : (settings m : List ℕ) (a : ConvertAnswer) → within (ofConvert a) ns ≡ true → Status ns (Converting.byAnswer settings m a .status)
+  of-convert settings m (Convert.Accepted c) h = refl
+  of-convert settings m (Convert.Refused r) h = one (r .number) h

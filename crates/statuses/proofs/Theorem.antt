@@ -3,12 +3,17 @@ use mathlib.Core.Path.{_≡_, refl}
 use mathlib.Core.Bool.{true, _&&_}
 use mathlib.Core.List.{List, []}
 use Prim.Native.Nat.{ℕ}
+use native.Mathlib.Omega.{arith}
+use lib.IntN.{ℤ, pos}
+use lib.Signed.{ltZ}
 use lib.ListN.{length}
 use lib.Dec.{eqb, leb}
 use Rattle.memory.specs.Word.{at}
-use Rattle.memory.proofs.ReadBounds.{if-cases}
+use Rattle.memory.proofs.ReadBounds.{Words, if-cases}
+use Rattle.settings.specs.declared.PointerWords.{PointerWords}
 use Rattle.settings.specs.declared.Settings.{Settings}
 use Rattle.settings.specs.Sheet.{sheetCall}
+use Rattle.state.specs.declared.State.{State}
 use Rattle.listed.specs.Listed.{startListed, rowListed}
 use Rattle.joining.specs.declared.Effect.{Effect}
 use Rattle.bus.specs.declared.BusRow.{BusRow}
@@ -23,7 +28,7 @@ use Rattle.numbers.specs.declared.decode.SettingsIn.{SettingsIn}
 use Rattle.numbers.specs.declared.decode.SettingsIn.the-variants as Settings-in
 use Rattle.numbers.specs.declared.decode.StateIn.{StateIn}
 use Rattle.numbers.specs.declared.decode.StateIn.the-variants as State-in
-use Rattle.numbers.specs.Decode.{settingsIn, stateIn}
+use Rattle.numbers.specs.Decode.{settingsAt, settingsIn, stateIn}
 use Rattle.answers.specs.AfterCall.{Answered, Stated}
 use Rattle.listed_answers.specs.AfterListed.{StatedListed, DrawnListed}
 use Rattle.effects.specs.declared.decode.EffectIn.{EffectIn}
@@ -34,12 +39,23 @@ use Rattle.thagaduvin_effect.specs.EffectCalls.{effectFrom, effectWith, hostEff
 use Rattle.thagaduvin.specs.MailCalls.{writeFrom, hostWriteMail, hostReadMail}
 use Rattle.thagaduvin.specs.BusCalls.{hostBus}
 use Rattle.thagaduvin.specs.WriterCalls.{hostWriteWord}
-use Rattle.refusals.specs.Refusals.{sheetNumbers, startListedNumbers, rowListedNumbers, effectNumbers, writerNumbers, busNumbers, writeMailNumbers, readMailNumbers}
-use Rattle.refusals.proofs.Told.{sheet-told}
+use Rattle.answers.specs.Changing.{Left}
+use Rattle.scroll.specs.Scroll.{shiftCall}
+use Rattle.listed_beside.specs.ListedBeside.{besideListed}
+use Rattle.shifts.specs.AfterShift.{scrollOf, BesideDone, afterBeside, noState, belowState, besideFrom}
+use Rattle.thagaduvin_scroll.specs.ScrollCalls.{shiftFrom, hostShift, besideWith, hostBeside}
+use Rattle.blame.proofs.Frames.{Registers}
+use Rattle.mending.specs.Mending.{mendStep}
+use Rattle.thagaduvin_mend.specs.MendCalls.{mendWith, hostMend}
+use Rattle.converter.specs.Converter.{convertCall}
+use Rattle.thagaduvin_convert.specs.ConvertCalls.{convertWith, hostConvert}
+use Rattle.refusals.specs.Refusals.{sheetNumbers, startListedNumbers, rowListedNumbers, effectNumbers, shiftNumbers, besideNumbers, mendNumbers, convertNumbers, writerNumbers, busNumbers, writeMailNumbers, readMailNumbers}
+use Rattle.refusals.proofs.Told.{sheet-told, shift-told}
 use Rattle.refusals.proofs.ToldListed.{start-listed-told, row-listed-told, write-told}
 use Rattle.refusals.proofs.ToldTexts.{bus-told, write-mail-told, read-mail-told}
+use Rattle.refusals.proofs.ToldOthers.{beside-told, mend-told, convert-told}
 use Rattle.statuses.specs.Statuses.{Status, Statuses}
-use Rattle.statuses.proofs.Tables.{of-sheet, of-start, of-row, of-bus, of-written, of-read, of-write}
+use Rattle.statuses.proofs.Tables.{of-sheet, of-start, of-row, of-bus, of-written, of-read, of-write, of-shift, of-beside, of-mend, of-convert}
 use Rattle.statuses.proofs.Read.{BothListed, effect-listed, applied}
 
 sheet-status : (settings answer : List ℕ) → Status sheetNumbers (hostSheet settings answer .status)
@@ -142,6 +158,67 @@ write-status : (m : List ℕ) (own other : Span) (address word : ℕ) → Status
 unfolding hostWriteWord
 write-status m own other address word = of-write writerNumbers (writeWord m own other address word .answer) (write-told m own other address word)
 
+shift-status : (settings m : List ℕ) (soft : PointerWords) (scroll answer : List ℕ) → Status shiftNumbers (hostShift settings m soft scroll answer .status)
+unfolding hostShift
+shift-status settings m soft scroll answer =
+    if-cases (λ (x : Stated). Status shiftNumbers (x .status)) (eqb (length scroll) 3 && eqb (length answer) 5) (λ _. by (settingsIn settings)) (λ _. refl)
+  where
+    by : (s : SettingsIn) → Status shiftNumbers (shiftFrom m soft scroll answer s .status)
+    by (Settings-in.Fit σ) =
+        of-shift shiftNumbers scroll answer (shiftCall σ m soft (scrollOf scroll)) (shift-told σ m soft (scrollOf scroll))
+    by Settings-in.Unfit = refl
+
+beside-status : (settings m : List ℕ) (shift : ℤ) (soft : PointerWords) (latch : ℕ) (state cells list answer : List ℕ)
+    → Status besideNumbers (hostBeside settings m shift soft latch state cells list answer .status)
+unfolding hostBeside besideFrom
+beside-status settings m shift soft latch state cells list answer =
+    if-cases Right (eqb (length answer) 8) (λ _. by (settingsIn settings)) (λ _. refl)
+  where
+    Right : BesideDone → Type 0
+    Right x = Status besideNumbers (x .status)
+
+    of : (σ : Settings) (s : State) → Right (afterBeside answer (besideListed σ m shift soft latch s cells list))
+    of σ s =
+        let x = besideListed σ m shift soft latch s cells list in
+        of-beside besideNumbers (x .buffer) (x .list) answer (x .answer) (beside-told σ m shift soft latch s cells list)
+
+    from : (σ : Settings) (s : StateIn) → Right (belowState σ m shift soft latch cells list answer s)
+    from σ (State-in.Fit s) = of σ s
+    from σ State-in.Unfit = refl
+
+    by : (s : SettingsIn) → Right (besideWith m shift soft latch state cells list answer s)
+    by (Settings-in.Fit σ) = if-cases Right (ltZ (pos 0) shift) (λ _. from σ (stateIn state)) (λ _. of σ noState)
+    by Settings-in.Unfit = refl
+
+-- TOP's and TOW's words are read as 16 bits
+registers : (xs : List ℕ) → Registers (settingsAt xs)
+unfolding settingsAt
+registers xs = record { top = omega arith; tow = omega arith }
+
+mend-status : (settings m : List ℕ) (latch : ℕ) (answer : List ℕ) → Words m → Status mendNumbers (hostMend settings m latch answer .status)
+unfolding hostMend settingsIn
+mend-status settings m latch answer w =
+    if-cases Right (eqb (length answer) 8)
+    (λ _. if-cases (λ (s : SettingsIn). Right (mendWith settings m latch answer s)) (eqb (length settings) 18) (λ _. mended) (λ _. refl)) (λ _. refl)
+  where
+    Right : Left → Type 0
+    Right x = Status mendNumbers (x .status)
+
+    mended : Right (mendWith settings m latch answer (Settings-in.Fit (settingsAt settings)))
+    mended =
+        let x = mendStep latch (settingsAt settings) m in
+        of-mend mendNumbers settings answer (x .memory) (x .answer) (mend-told latch (settingsAt settings) m w (registers settings))
+
+convert-status : (settings m : List ℕ) (marks latch : ℕ) (answer : List ℕ) → Status convertNumbers (hostConvert settings m marks latch answer .status)
+unfolding hostConvert
+convert-status settings m marks latch answer =
+    if-cases (λ (x : Left). Status convertNumbers (x .status)) (eqb (length answer) 4) (λ _. by (settingsIn settings)) (λ _. refl)
+  where
+    by : (s : SettingsIn) → Status convertNumbers (convertWith settings m marks latch answer s .status)
+    by (Settings-in.Fit σ) =
+        let x = convertCall latch σ m marks in of-convert convertNumbers settings (x .memory) (x .answer) (convert-told latch σ m marks)
+    by Settings-in.Unfit = refl
+
 pub statuses : Statuses
 statuses = record {
   sheet = sheet-status;
@@ -155,4 +232,8 @@ statuses = record {
   readMail = read-mail-status;
   bus = bus-status;
   writeWord = write-status;
+  shift = shift-status;
+  beside = beside-status;
+  mend = mend-status;
+  convert = convert-status;
 }

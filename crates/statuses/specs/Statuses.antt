@@ -1,9 +1,12 @@
--- The status of a console's call: 0 where it is accepted, 255 where it is none, else a number of document 01's and 02's that the call can be
+-- The status of each of a console's fifteen calls: 0 where it is accepted, 255 where it is none, else a number of document 01's and 02's that the call can be
 -- refused with.
-use Prim.Native.Nat.{ℕ}
+use Prim.Native.Nat.{ℕ, _<_}
 use mathlib.Core.Path.{_≡_}
 use mathlib.Core.Bool.{true}
 use mathlib.Core.List.{List, [], _∷_}
+use lib.IntN.{ℤ}
+use lib.ListN.{getD}
+use Rattle.settings.specs.declared.PointerWords.{PointerWords}
 use Rattle.bus.specs.declared.BusRow.{BusRow}
 use Rattle.writer.specs.declared.Span.{Span}
 use Rattle.thagaduvin.specs.Calls.{hostSheet, hostStart, hostRow, hostLatch}
@@ -11,7 +14,10 @@ use Rattle.thagaduvin_effect.specs.EffectCalls.{hostEffect, hostJoin, hostApply
 use Rattle.thagaduvin.specs.MailCalls.{hostWriteMail, hostReadMail}
 use Rattle.thagaduvin.specs.BusCalls.{hostBus}
 use Rattle.thagaduvin.specs.WriterCalls.{hostWriteWord}
-use Rattle.refusals.specs.Refusals.{sheetNumbers, startListedNumbers, rowListedNumbers, effectNumbers, writerNumbers, busNumbers, writeMailNumbers, readMailNumbers, has}
+use Rattle.thagaduvin_scroll.specs.ScrollCalls.{hostShift, hostBeside}
+use Rattle.thagaduvin_mend.specs.MendCalls.{hostMend}
+use Rattle.thagaduvin_convert.specs.ConvertCalls.{hostConvert}
+use Rattle.refusals.specs.Refusals.{sheetNumbers, startListedNumbers, rowListedNumbers, effectNumbers, shiftNumbers, besideNumbers, mendNumbers, convertNumbers, writerNumbers, busNumbers, writeMailNumbers, readMailNumbers, has}
 
 -- a status of a call with these refusals
 abbrev pub Status : List ℕ → ℕ → Type 0
@@ -32,3 +38,10 @@ pub record Statuses : Type 0 where
   pub readMail : (text cells answer : List ℕ) → Status readMailNumbers (hostReadMail text cells answer .status)
   pub bus : (h : BusRow) (totals answer : List ℕ) → Status busNumbers (hostBus h totals answer .status)
   pub writeWord : (m : List ℕ) (own other : Span) (address word : ℕ) → Status writerNumbers (hostWriteWord m own other address word .status)
+  pub shift : (settings m : List ℕ) (soft : PointerWords) (scroll answer : List ℕ) → Status shiftNumbers (hostShift settings m soft scroll answer .status)
+  pub beside : (settings m : List ℕ) (shift : ℤ) (soft : PointerWords) (latch : ℕ) (state cells list answer : List ℕ)
+      → Status besideNumbers (hostBeside settings m shift soft latch state cells list answer .status)
+  -- of 16-bit words, which lent memory has
+  pub mend : (settings m : List ℕ) (latch : ℕ) (answer : List ℕ) → ((i : ℕ) → getD m i 0 < 65536)
+      → Status mendNumbers (hostMend settings m latch answer .status)
+  pub convert : (settings m : List ℕ) (marks latch : ℕ) (answer : List ℕ) → Status convertNumbers (hostConvert settings m marks latch answer .status)

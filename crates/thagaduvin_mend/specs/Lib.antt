@@ -1,1 +1,2 @@
 pub mod MendCalls
+pub mod MendLoop

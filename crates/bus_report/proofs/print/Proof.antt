@@ -6,10 +6,10 @@ use Rattle.bus_report.proofs.print.Statement.{statement}
 use Rattle.bus_report.proofs.print.Tie as tie
 
 abbrev Inv-loop : tie.InvT-loop
-Inv-loop mem text₀ out₀ text out = Unit {0}
+Inv-loop burst mem text₀ out₀ text out = Unit {0}
 
 abbrev μ-loop : tie.MeasureT-loop
-μ-loop mem text₀ out₀ text out = calls text
+μ-loop burst mem text₀ out₀ text out = calls text
 
 array-share-prefix-out : tie.Need-array-share-prefix-out Inv-loop μ-loop
 array-share-prefix-out c = (rw (c .before .count .given .1) at (c .before .before .before .next .ensures)) .within

@@ -13,7 +13,7 @@ returns-2 c = rw (c .before .script2 .given .1)
 
 returns-3 : tie.Need-returns-3
 unfolding toCome
-returns-3 c = rw (c .before .before .before .script3 .given .1, c .at-end .ensures)
+returns-3 c = rw (c .before .before .script3 .given .1, c .at-end .ensures)
 
 pub begin-spec : {M : Type 1} → statement M
 begin-spec =

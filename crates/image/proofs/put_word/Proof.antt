@@ -19,7 +19,8 @@ returns-2 c =
     let b = c .before .before .before .before .before in
     let a = b .before .before .before .before .before .before .args in (
       omega arith,
-      p .1 ∙ rw (its-record wordRecord (a .i) (a .w) (b .before .before .before .before .if1 .left), b .low-byte2 .ensures, b .before .high-byte2 .ensures, b .before .before .low-byte .ensures, b .before .before .before .high-byte .ensures),
+      p .1 ∙ rw (its-record wordRecord (a .i) (a .w) (b .before .before .before .before .if1 .left), b .low-byte2 .ensures)
+          (rw (b .before .high-byte2 .ensures, b .before .before .low-byte .ensures, b .before .before .before .high-byte .ensures)),
     )
 
 pub put-word-spec : {M : Type 1} → statement M

@@ -12,13 +12,13 @@ abbrev μ-loop : tie.MeasureT-loop
 μ-loop mem₀ now₀ out₀ mem now out = count now mem
 
 array-share-prefix-out : tie.Need-array-share-prefix-out Inv-loop μ-loop
-array-share-prefix-out c = (rw (c .before .count .given .1) at (c .before .before .before .next-change .ensures)) .within
+array-share-prefix-out c = (rw (c .before .count .given .1) at (c .before .before .before .next-change .ensures .1)) .within
 
 slice-aggregate-write-all : tie.Need-slice-aggregate-write-all Inv-loop μ-loop
-slice-aggregate-write-all c = (rw (c .before .before .count .given .1) at (c .before .before .before .before .next-change .ensures)) .sized
+slice-aggregate-write-all c = (rw (c .before .before .count .given .1) at (c .before .before .before .before .next-change .ensures .1)) .sized
 
 loop-less : tie.Need-loop-less Inv-loop μ-loop
-loop-less c = (rw (c .before .before .before .count .given .1) at (c .before .before .before .before .before .next-change .ensures)) .fewer
+loop-less c = (rw (c .before .before .before .count .given .1) at (c .before .before .before .before .before .next-change .ensures .1)) .fewer
 
 pub mend-spec : {M : Type 1} → statement M
 mend-spec =
