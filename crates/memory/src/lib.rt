@@ -5,7 +5,7 @@ ghost use lib.ListN.{length, take, drop};
 ghost use lib.Dec.{leb};
 ghost use Rattle.memory.specs.Word.{bit, high, low};
 ghost use Rattle.memory.specs.Reading.{fetch, blaming, fault, missing, fromTold, refusal, run};
-ghost use Rattle.memory.specs.Address.{to, pointer, isAddress, forward, nextWord, ahead, onward, further, words};
+ghost use Rattle.memory.specs.Address.{to, pointer, isAddress, pageAfter, nextWord, ahead, onward, further, words};
 ghost use Rattle.memory.specs.Answers.{isRun, endPage, wordsRead};
 
 // A pointer in use: the address of the word that is due, and where the pointer itself begins in memory, 0 where a register held it. A
@@ -155,21 +155,26 @@ pub fn is_address(a: u32) -> bool
     (a % 2 == 0) & (a < 16777216)
 }
 
-// The address of the word after the one at `a`.
+// The address of the word after the one at `a`: the place goes on, from FFFE to 0, and what it carries there goes to the page.
 pub fn next_word(linear: bool, a: u32) -> u32
     ensures { λ r. ⌜ r ≡ nextWord linear a ⌝ }
 {
-    forward(linear, 2, a)
+    let place = (a % 65536) as u16;
+    let next = std::num::wrapping_add_u16(place, 2);
+    let carried = if next < place { 1 } else { 0 };
+    page_after(linear, carried, a / 65536) * 65536 + next as u32
 }
 
-// The address `count` words after `a`.
+// The address `count` words after `a`. 8,388,608 words are 16,777,216 bytes, after which an address comes round in both modes: so many
+// are left out, and no sum is too large.
 pub fn words_ahead(linear: bool, count: u32, a: u32) -> u32
     ensures { λ r. ⌜ r ≡ ahead linear count a ⌝ }
 {
     if count == 0 {
         return a;
     }
-    forward(linear, count % 8388608 * 2, a)
+    let sum = a % 65536 + count % 8388608 * 2;
+    page_after(linear, sum / 65536, a / 65536) * 65536 + sum % 65536
 }
 
 // The pointer one word further.
@@ -264,19 +269,12 @@ fn has_room(i: usize, count: usize, end: usize) -> bool
     if i <= end { count <= end - i } else { false }
 }
 
-// The address some bytes further, as a page and a place. Linear, the sum of both lets the place carry into the page, and wraps after
-// page FF; segmented, the place wraps and the page stays.
-fn forward(linear: bool, bytes: u32, a: u32) -> u32
-    requires { ⌜ bytes < 16777216 ⌝ }
-    ensures { λ r. ⌜ r ≡ forward linear bytes a ⌝ }
+// The page after the place has carried: linear it takes the carry, from FF to 0; segmented it stays.
+fn page_after(linear: bool, carried: u32, page: u32) -> u32
+    requires { ⌜ (carried ≤ 256) × (page < 65536) ⌝ }
+    ensures { λ r. ⌜ r ≡ pageAfter linear carried page ⌝ }
 {
-    let page = a / 65536;
-    let place = a % 65536;
-    if linear {
-        (page % 256 * 65536 + place + bytes) % 16777216
-    } else {
-        page * 65536 + (place + bytes) % 65536
-    }
+    if linear { (page + carried) % 256 } else { page }
 }
 
 // The page at which addresses from a page on have wrapped.
