@@ -5,7 +5,7 @@ ghost use lib.ListN.{length, take, drop};
 ghost use lib.Dec.{leb};
 ghost use Rattle.memory.specs.Word.{bit, high, low};
 ghost use Rattle.memory.specs.Reading.{fetch, blaming, fault, missing, fromTold, refusal, run};
-ghost use Rattle.memory.specs.Address.{to, pointer, isAddress, pageAfter, nextWord, ahead, onward, further, words};
+ghost use Rattle.memory.specs.Address.{to, pointer, isAddress, pageAfter, forward, nextWord, ahead, onward, further, words};
 ghost use Rattle.memory.specs.Answers.{isRun, endPage, wordsRead};
 
 // A pointer in use: the address of the word that is due, and where the pointer itself begins in memory, 0 where a register held it. A
@@ -173,8 +173,7 @@ pub fn words_ahead(linear: bool, count: u32, a: u32) -> u32
     if count == 0 {
         return a;
     }
-    let sum = a % 65536 + count % 8388608 * 2;
-    page_after(linear, sum / 65536, a / 65536) * 65536 + sum % 65536
+    forward_in_loops(linear, count % 8388608 * 2, a)
 }
 
 // The pointer one word further.
@@ -182,7 +181,7 @@ pub fn onward(linear: bool, p: Pointer) -> Pointer
     ensures { λ r. ⌜ r ≡ onward linear p ⌝ }
 {
     Pointer {
-        address: next_word(linear, p.address),
+        address: forward_in_loops(linear, 2, p.address),
         from: p.from,
     }
 }
@@ -271,10 +270,25 @@ fn has_room(i: usize, count: usize, end: usize) -> bool
 
 // The page after the place has carried: linear it takes the carry, from FF to 0; segmented it stays.
 fn page_after(linear: bool, carried: u32, page: u32) -> u32
-    requires { ⌜ (carried ≤ 256) × (page < 65536) ⌝ }
+    requires { ⌜ (carried ≤ 1) × (page < 65536) ⌝ }
     ensures { λ r. ⌜ r ≡ pageAfter linear carried page ⌝ }
 {
     if linear { (page + carried) % 256 } else { page }
+}
+
+// The address some bytes further, as `next_word` steps, for loops that have the step inlined: linear, one sum of page and place, which
+// carries and wraps by itself. Part by part rows and effects take longer (docs/DECISIONS.md, "The step in the code").
+fn forward_in_loops(linear: bool, bytes: u32, a: u32) -> u32
+    requires { ⌜ bytes < 16777216 ⌝ }
+    ensures { λ r. ⌜ r ≡ forward linear bytes a ⌝ }
+{
+    let page = a / 65536;
+    let place = a % 65536;
+    if linear {
+        (page % 256 * 65536 + place + bytes) % 16777216
+    } else {
+        page * 65536 + (place + bytes) % 65536
+    }
 }
 
 // The page at which addresses from a page on have wrapped.

@@ -1,34 +1,23 @@
 -- No word further is the address itself; more of them are one move, of 2 bytes a word.
 use mathlib.Core.Path.{_≡_, sym, _∙_}
-use Prim.Native.Nat.{suc, _-_, _<_}
+use Prim.Native.Nat.{suc, _-_}
 use native.Mathlib.Omega.{arith}
-use borrow.Author.Needs.{needs}
-use Rattle.memory.specs.Address.{page}
 use Rattle.memory.proofs.WordLaws.{ahead-none}
 use Rattle.memory.proofs.RunLaws.{ahead-forward}
-use Rattle.memory.proofs.Step.{forward-cut, pages-kept}
+use Rattle.memory.proofs.Step.{forward-cut}
+use borrow.Author.Needs.{needs}
 use Rattle.memory.proofs.words_ahead.Statement.{statement}
 use Rattle.memory.proofs.words_ahead.Tie as tie
 
 returns : tie.Need-returns
 returns c = sym (ahead-none _ _ _ (c .if1 .taken))
 
--- the page has 16 bits, as before
-fits : (c : tie.After-page-after) → c .page-after .result < 65536
-fits c =
-    let a = c .before .before .args in
-    let small = pages-kept (a .linear) 65536 _ (page (a .a)) (omega arith) (omega arith) in
-    rw (c .page-after .ensures) small
-
 returns-2 : tie.Need-returns-2
 returns-2 c =
     let a = c .before .before .args in
     let e : suc (a .count - 1) ≡ a .count = omega (arith, c .before .if1 .left) in
-    rw (c .page-after .ensures)
-    (forward-cut (a .linear) (a .count) (a .a) ∙ sym (rw e at (ahead-forward (a .linear) (a .count - 1) (a .a))))
+    c .forward-in-loops .ensures ∙ forward-cut (a .linear) (a .count) (a .a)
+    ∙ sym (rw e at (ahead-forward (a .linear) (a .count - 1) (a .a)))
 
 pub words-ahead-spec : {M : Type 1} → statement M
-words-ahead-spec =
-    tie.close
-    (tie.spec returns (λ c. search needs) (λ c. search needs) (λ c κs. (omega arith, omega arith))
-    (λ c. let f = fits c in omega arith) (λ c. let f = fits c in omega arith) returns-2)
+words-ahead-spec = tie.close (tie.spec returns (λ c. search needs) (λ c κs. search needs) returns-2)
