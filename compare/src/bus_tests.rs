@@ -3,6 +3,8 @@
 use crate::bus::{Largest, Taken, Totals, Used};
 use crate::generate::Rng;
 use crate::host::{self, totals_numbers, BUS_ANSWER, TOTALS, UNFIT};
+use crate::script;
+use crate::vectors;
 
 fn used(words: u32, screen: u32, row: u32) -> Used {
     Used { words, screen, row }
@@ -187,4 +189,23 @@ fn random_lists() {
         };
         assert_eq!(totals, expected);
     }
+}
+
+#[test]
+fn report_of_a_script() {
+    // The script of sheet S, without a burst count and with one; the last record of the register counts.
+    let s = vectors::sheet_s();
+    assert_eq!(script::reported(&s), b"refused 20 row 0 at 000000\n");
+    let with = |records: &[u8]| {
+        String::from_utf8(script::reported(&[records, &s].concat())).expect("text")
+    };
+    let told = "row 0: words 19, bursts 3, clocks released at least 480\n\
+                row 1: words 3, bursts 1, clocks released at least 0\n\
+                all rows: words 22, bursts 4, clocks released at least 480\n\
+                largest: words 19, screen 0, row 0\n";
+    assert_eq!(with(&[1, 0x10, 0x10, 0x08]), told);
+    assert_eq!(with(&[1, 0x10, 0, 1, 1, 0x10, 0x10, 0x08]), told);
+    // A refusal of the frame, after the rows before it, and of the script.
+    assert_eq!(script::reported(&[3, 1, 0]), b"refused 2 row 0 at 000000\n");
+    assert_eq!(script::reported(&[3, 1]), b"refused script at 2\n");
 }

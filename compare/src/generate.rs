@@ -1171,6 +1171,18 @@ pub fn segmented_script(rng: &mut Rng, shape: &Shape) -> Vec<u8> {
     bytes
 }
 
+/// Records of the burst register, one or two, of which the last counts; or none.
+pub fn burst_records(rng: &mut Rng) -> Vec<u8> {
+    let mut bytes = Vec::new();
+    for _ in 0..rng.pick(&[0, 1, 1, 1, 1, 2]) {
+        let [any_space, any_count] = rng.word().to_be_bytes();
+        let space = rng.pick(&[0, 1, 2, 0x10, 0xFF, any_space]);
+        let count = rng.pick(&[0, 1, 2, 7, 8, 0x10, 0xFF, any_count]);
+        bytes.extend([1, 0x10, space, count]);
+    }
+    bytes
+}
+
 fn well_formed(frame: &Frame) -> Vec<u8> {
     let mut bytes = script::records(&frame.settings, &frame.image.memory).concat();
     bytes.push(0);

@@ -5,7 +5,9 @@ use crate::generate::Rng;
 use crate::host::{self, settings_numbers, MAIL_ANSWER, UNFIT};
 use crate::mail::{cell, cells, text};
 use crate::rules::{Settings, CELLS};
+use crate::script;
 use crate::tests::wide;
+use crate::vectors::sheet_s;
 
 const HIGHLIGHT: u16 = 0x100;
 const UNDERLINE: u16 = 0x200;
@@ -397,4 +399,19 @@ fn every_byte() {
             }
         }
     }
+}
+
+#[test]
+fn text_of_a_script() {
+    let s = sheet_s();
+    let rows = "\x1B[0mAB\x1B[0;4m? \x1B[0m\n\x1B[0m\x1B[0;4m    \x1B[0m\n";
+    assert_eq!(script::mailed(&s), rows.as_bytes());
+    // Row 1's block past memory: the text of row 0, then the refusal's line.
+    let mut cut = s[..s.len() - 1].to_vec();
+    cut.extend([2, 0, 0, 0x20, 0, 1, 0]);
+    let mut expected = rows.as_bytes()[..rows.find('\n').unwrap() + 1].to_vec();
+    expected.extend(b"refused 7 row 1 at 010030 from 000020\n");
+    assert_eq!(script::mailed(&cut), expected);
+    assert_eq!(script::mailed(&[0]), b"refused 2 row 0 at 000000\n");
+    assert_eq!(script::mailed(b""), b"refused script at 0\n");
 }

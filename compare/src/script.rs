@@ -1,6 +1,9 @@
-//! The draw program, the mending program and the converting program: each reads a script and gives its whole output.
+//! The draw program, the programs for mail and for the bus report, the mending program and the converting program: each reads a
+//! script and gives its whole output.
 
+use crate::bus::{Largest, Totals, Used};
 use crate::convert::{self, Screen};
+use crate::mail;
 use crate::mend::mend;
 use crate::rules::{self, Edition, Interlace, Refusal, Row, Settings, CELLS};
 use crate::trail::PLACES;
@@ -11,6 +14,12 @@ pub const MEMORY: usize = 16_384;
 
 /// Registers that a script can set, 00 to 18.
 pub const REGISTERS: usize = 0x19;
+
+/// The register of the bus: burst space and burst count.
+const BURST: usize = 0x10;
+
+/// Bytes that the text of any row fits in.
+const ROW_TEXT: usize = 2048;
 
 /// Settings with every number 0 and every switch off.
 pub const UNSET: Settings = Settings {
@@ -210,6 +219,50 @@ pub fn mended(input: &[u8]) -> Vec<u8> {
     })
 }
 
+/// The whole output of the mail program for a script: the text of each row, and nothing at the end of the frame.
+pub fn mailed(input: &[u8]) -> Vec<u8> {
+    unless_refused(input, |script, out| {
+        rows(&script.settings, &script.memory, |_, _, cells| {
+            let mut text = [0; ROW_TEXT];
+            let length = mail::write(&script.settings, cells, &mut text)?;
+            out.extend(&text[..length]);
+            Ok(())
+        })
+    })
+}
+
+/// The whole output of the bus program for a script: a line for each row, then the sums and the largest row.
+pub fn reported(input: &[u8]) -> Vec<u8> {
+    unless_refused(input, |script, out| {
+        let mut totals = Totals::default();
+        rows(&script.settings, &script.memory, |before, row, _| {
+            let used = Used {
+                words: before + row.words,
+                screen: 0,
+                row: row.row,
+            };
+            let taken = totals.report(script.registers[BURST], &used)?;
+            let shares = bus_shares(used.words.into(), taken.bursts, taken.released);
+            line(out, format_args!("row {}: {shares}", used.row));
+            Ok(())
+        })?;
+        let shares = bus_shares(totals.words, totals.bursts, totals.released);
+        line(out, format_args!("all rows: {shares}"));
+        if let Some(largest) = totals.largest {
+            let Largest { words, screen, row } = largest;
+            line(
+                out,
+                format_args!("largest: words {words}, screen {screen}, row {row}"),
+            );
+        }
+        Ok(())
+    })
+}
+
+fn bus_shares(words: u64, bursts: u64, released: u64) -> String {
+    format!("words {words}, bursts {bursts}, clocks released at least {released}")
+}
+
 /// The output for a script, with what is done before it is drawn.
 fn output(input: &[u8], before: impl FnOnce(&mut Script, &mut Vec<u8>)) -> Vec<u8> {
     unless_refused(input, |script, out| {
@@ -310,19 +363,32 @@ fn line(out: &mut Vec<u8>, text: std::fmt::Arguments) {
 }
 
 fn draw(settings: &Settings, memory: &[u16], out: &mut Vec<u8>) -> Result<(), Refusal> {
-    // A first frame.
+    let (mut count, mut words) = (0, 0);
+    rows(settings, memory, |before, row, cells| {
+        put_row(out, row, &cells[..settings.columns()]);
+        count += 1;
+        words += before + row.words;
+        Ok(())
+    })?;
+    put_end(out, count, words as usize);
+    Ok(())
+}
+
+/// A first frame, row by row, with the row's cells: the words of its start go before those of row 0.
+fn rows(
+    settings: &Settings,
+    memory: &[u16],
+    mut each: impl FnMut(u32, &Row, &[u32; CELLS]) -> Result<(), Refusal>,
+) -> Result<(), Refusal> {
     let mut list = [0; PLACES];
     let start = rules::start(settings, memory, 0, &mut list)?;
     let mut state = start.state;
-    let mut words = start.words;
-    let mut rows = 0;
+    let mut before = start.words;
     let mut cells = [0; CELLS];
     while state.fields.lines_left > 0 {
         let row = rules::row(settings, memory, &mut state, &mut cells, &mut list)?;
-        put_row(out, &row, &cells[..settings.columns()]);
-        rows += 1;
-        words += row.words;
+        each(before, &row, &cells)?;
+        before = 0;
     }
-    put_end(out, rows, words as usize);
     Ok(())
 }

@@ -266,6 +266,7 @@ pub fn all() -> Vec<Vector> {
     scrolls(&mut set);
     pointers(&mut set);
     numbers(&mut set);
+    linear_twins(&mut set);
     set.0
 }
 
@@ -1120,6 +1121,56 @@ fn numbers(set: &mut Set) {
                 .row(0x1B0, 0, &[(0x210, 0x300, 2, 2)])
                 .text(0x210, &[0x57, 0x80])
                 .write(0x300, &[0xC7FF, 0x8001])
+                .done()
+        },
+    );
+}
+
+/// The screens above whose settings are segmented, which are refused 17 and no more, in linear form.
+fn linear_twins(set: &mut Set) {
+    // The words of a null TOP, segmented: linear, the low byte of the first is part of the address.
+    set.sketch(
+        "top-at-ff0000-under-ignored-bits-linear",
+        "refused 7 row 0 at FF0000 from 000000",
+        |s| s.top = [0x80FF, 1],
+    );
+    set.sketch(
+        "missing-list-at-end-of-page-0-linear",
+        "refused 7 row 0 at 00FFFE from 000106",
+        |s| s.row(0x100, 0, &[(0xFFFE, 0, 4, 4)]).done(),
+    );
+    set.sketch(
+        "missing-page-127-linear",
+        "refused 7 row 0 at 7F0010 from 000106",
+        |s| s.row(0x100, 0x7F_0010, &[(0x7F_0010, 0, 1, 1)]).done(),
+    );
+    // TOW, the window's two, its row's three, the redefinition's; those of "linear-pointers-with-ignored-bits" are the others.
+    set.sketch(
+        "linear-pointers-of-window-with-ignored-bits",
+        "end rows 2 words",
+        |s| {
+            s.register(0x0B, 0x8000).register(0x0C, 0x0181);
+            s.window(0x180, 0, 0x1A0, (0, 0), (2, 3))
+                .write(0x180, &[0x7F00, 0x0001, 0xAA00, 0x01A1]);
+            s.row(0x1A0, 0, &[(0x210, 0x310, 2, 2)])
+                .write(0x1A0, &[0x5500, 0x0001])
+                .write(0x1A6, &[0xFF00, 0x0211, 0x0100, 0x0311]);
+            s.block(0x100, 0, Some(0x400), &[(0x200, 0x300, 2, 2)])
+                .write(0x106, &[0xFE00, 0x0401]);
+            s.text(0x200, &[0x80, 0x41])
+                .text(0x210, &[0x57, 0x80])
+                .write(0x300, &[0x8001])
+                .write(0x310, &[0x8002])
+                .write(0x400, &[0x002A, 0x0000, 0x0000]);
+        },
+    );
+    set.sketch(
+        "from-linear-link-with-ignored-bits",
+        "refused 7 row 1 at 010010 from 000100",
+        |s| {
+            s.row(0x100, 0x1_0010, &[(0x200, 0, 2, 2)])
+                .text(0x200, b"AB")
+                .write(0x100, &[0x8101, 0x0011])
                 .done()
         },
     );

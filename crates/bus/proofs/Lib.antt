@@ -1,3 +1,4 @@
 pub mod BusLaws
+mod Machine
 pub mod NumberLaws
 pub mod Reports

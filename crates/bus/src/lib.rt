@@ -54,8 +54,20 @@ pub fn report(totals: &mut Totals, row: BusRow) -> BusAnswer
     r.answer
 }
 
-// The same on plain numbers: the totals as they are after the row, with its answer.
-pub fn count_row(totals: Totals, row: BusRow) -> Reported
+// The same for totals by value: they stand in a local here, which is lent, and come back with the row's answer.
+pub fn report_by_value(totals: Totals, row: BusRow) -> Reported
+    ensures { λ r. ⌜ r ≡ reported totals row ⌝ }
+{
+    let mut standing = totals;
+    let answer = report(&mut standing, row);
+    Reported {
+        totals: standing,
+        answer,
+    }
+}
+
+// What `report` is over, on plain numbers: the totals as they are after the row, with its answer.
+fn count_row(totals: Totals, row: BusRow) -> Reported
     ensures { λ r. ⌜ r ≡ reported totals row ⌝ }
 {
     if row.burst % 256 == 0 {

@@ -97,7 +97,7 @@ fn next_row(p: Reporting, mem: &[u16], out: &mut [u8; 2048]) -> TextLines
     match frame::step(settings, mem, from, &mut cells) {
         StepAnswer::Drawn { row, progress } => {
             let h = handed_in(p.burst, p.before, row.words, row.number);
-            write_row(p, progress, h, bus::count_row(totals, h), out)
+            write_row(p, progress, h, bus::report_by_value(totals, h), out)
         }
         StepAnswer::Ended { rows, words } => TextLines::Written {
             count: bus_lines::total_lines(totals, out),

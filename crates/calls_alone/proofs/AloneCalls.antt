@@ -115,7 +115,7 @@ module _ (settings m : List ℕ) (σ : Settings) (g : settingsIn settings ≡ Se
   unfolding onSlices Listed.onLent rowNumbers
   on-slices c state zs (Row.Accepted d) cells list l n = refl
   on-slices c state zs (Row.Refused r) cells list l n =
-      rw (n r refl, same-refusal r (c .answer) (c .aloneAnswer) (omega (arith, l)) (omega (arith, c .aloneNumbers)))
+      rw (n r refl, same-refusal r (c .answer) (c .aloneAnswer) (omega (arith, l)) (omega (arith, c .aloneNumbers))) refl
 
   row-alone : (c : Call) (s : State) (f : Fields) (state fields : List ℕ) (a : Applied) → length (c .answer) ≡ 8
       → rowListed σ m s (c .cells) (c .list) ≡ Listed.rowAlone σ m f (listed c) a

@@ -8,7 +8,7 @@ ghost use lib.ListN.{length};
 ghost use Rattle.script.specs.Feeding.{stepped, outcome};
 ghost use Rattle.converter.specs.Converter.{convertCall};
 ghost use Rattle.convert_text.specs.Registers.{turnedRegisters};
-ghost use Rattle.convert_text.specs.ConvertText.{calledText, outcomeText};
+ghost use Rattle.convert_text.specs.ConvertText.{calledText, outcomeText, left, calledLeft, outcomeLeft};
 ghost use Rattle.convert_text.specs.ToCome.{toCome, Next};
 
 // What of a text is still to come.
@@ -27,7 +27,8 @@ pub enum Piece {
 
 // The text of a script, from where its bytes led; its input ends here. The list that it draws is converted in `registers` and `mem`.
 pub fn begin(script: Step, registers: &mut [u16; 25], mem: &mut [u16; 16384]) -> Text
-    ensures { λ r. ⌜ toCome (now (registers .exit)) (now (mem .exit)) r ≡ outcomeText (now (registers .entry)) (outcome (stepped script (now (mem .entry)))) ⌝ }
+    ensures { λ r. ⌜ (toCome (now (registers .exit)) (now (mem .exit)) r ≡ outcomeText (now (registers .entry)) (outcome (stepped script (now (mem .entry)))))
+        × (left (now (registers .exit)) (now (mem .exit)) ≡ outcomeLeft (now (registers .entry)) (now (mem .entry)) (outcome (stepped script (now (mem .entry))))) ⌝ }
 {
     match script {
         Step::Draw(settings) => begin_converted(settings, registers, mem),
@@ -38,7 +39,8 @@ pub fn begin(script: Step, registers: &mut [u16; 25], mem: &mut [u16; 16384]) ->
 
 // The list is converted for the first frame that a console draws: from latch 0.
 fn begin_converted(settings: Settings, registers: &mut [u16; 25], mem: &mut [u16; 16384]) -> Text
-    ensures { λ r. ⌜ toCome (now (registers .exit)) (now (mem .exit)) r ≡ calledText (now (registers .entry)) (convertCall 0 settings (now (mem .entry)) (length (now (mem .entry)))) ⌝ }
+    ensures { λ r. ⌜ (toCome (now (registers .exit)) (now (mem .exit)) r ≡ calledText (now (registers .entry)) (convertCall 0 settings (now (mem .entry)) (length (now (mem .entry)))))
+        × (left (now (registers .exit)) (now (mem .exit)) ≡ calledLeft (now (registers .entry)) (convertCall 0 settings (now (mem .entry)) (length (now (mem .entry))))) ⌝ }
 {
     let mut marks = [0u8; 16384];
     match conversion::convert(settings, mem, &mut marks, 0) {

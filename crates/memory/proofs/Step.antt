@@ -66,9 +66,10 @@ pages-apart : (l : Bool) (c g h : ℕ) → g < 256 → h < 256 → pageAfter l c
 pages-apart true c g h i k e = omega arith
 pages-apart false c g h i k e = e
 
-pages-kept : (l : Bool) (c g : ℕ) → g < 256 → pageAfter l c g < 256
-pages-kept true c g h = omega arith
-pages-kept false c g h = h
+-- a page stays below any bound that it was below, from 256 on
+pub pages-kept : (l : Bool) (n c g : ℕ) → 256 ≤ n → g < n → pageAfter l c g < n
+pages-kept true n c g h i = omega arith
+pages-kept false n c g h i = i
 
 even : (a : ℕ) → isAddress a ≡ true → a % 2 ≡ 0
 even a h = eqb-true (a % 2) 0 (both (eqb (a % 2) 0) (ltb a 16777216) h .0)
@@ -82,7 +83,7 @@ unfolding nextWord
 step-address l a h =
     let g = pageAfter l (carry 2 (place a)) (page a) in
     let e = even a h in
-    let small : g < 256 = pages-kept l (carry 2 (place a)) (page a) (in-pages a h) in
+    let small : g < 256 = pages-kept l 256 (carry 2 (place a)) (page a) (omega arith) (in-pages a h) in
     rw (eq-eqb (addressOf g (placeAfter 2 (place a)) % 2) 0 (omega arith), lt-ltb (addressOf g (placeAfter 2 (place a))) 16777216 (omega arith))
 
 -- no two addresses step to the same one

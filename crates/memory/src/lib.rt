@@ -5,7 +5,7 @@ ghost use lib.ListN.{length, take, drop};
 ghost use lib.Dec.{leb};
 ghost use Rattle.memory.specs.Word.{bit, high, low};
 ghost use Rattle.memory.specs.Reading.{fetch, blaming, fault, missing, fromTold, refusal, run};
-ghost use Rattle.memory.specs.Address.{to, pointer, isAddress, forward, nextWord, ahead, onward, further, words};
+ghost use Rattle.memory.specs.Address.{to, pointer, isAddress, pageAfter, forward, nextWord, ahead, onward, further, words};
 ghost use Rattle.memory.specs.Answers.{isRun, endPage, wordsRead};
 
 // A pointer in use: the address of the word that is due, and where the pointer itself begins in memory, 0 where a register held it. A
@@ -155,21 +155,25 @@ pub fn is_address(a: u32) -> bool
     (a % 2 == 0) & (a < 16777216)
 }
 
-// The address of the word after the one at `a`.
+// The address of the word after the one at `a`: the place goes on, from FFFE to 0, and what it carries there goes to the page.
 pub fn next_word(linear: bool, a: u32) -> u32
     ensures { λ r. ⌜ r ≡ nextWord linear a ⌝ }
 {
-    forward(linear, 2, a)
+    let place = (a % 65536) as u16;
+    let next = std::num::wrapping_add_u16(place, 2);
+    let carried = if next < place { 1 } else { 0 };
+    page_after(linear, carried, a / 65536) * 65536 + next as u32
 }
 
-// The address `count` words after `a`.
+// The address `count` words after `a`. 8,388,608 words are 16,777,216 bytes, after which an address comes round in both modes: so many
+// are left out, and no sum is too large.
 pub fn words_ahead(linear: bool, count: u32, a: u32) -> u32
     ensures { λ r. ⌜ r ≡ ahead linear count a ⌝ }
 {
     if count == 0 {
         return a;
     }
-    forward(linear, count % 8388608 * 2, a)
+    forward_in_loops(linear, count % 8388608 * 2, a)
 }
 
 // The pointer one word further.
@@ -177,7 +181,7 @@ pub fn onward(linear: bool, p: Pointer) -> Pointer
     ensures { λ r. ⌜ r ≡ onward linear p ⌝ }
 {
     Pointer {
-        address: next_word(linear, p.address),
+        address: forward_in_loops(linear, 2, p.address),
         from: p.from,
     }
 }
@@ -264,9 +268,17 @@ fn has_room(i: usize, count: usize, end: usize) -> bool
     if i <= end { count <= end - i } else { false }
 }
 
-// The address some bytes further, as a page and a place. Linear, the sum of both lets the place carry into the page, and wraps after
-// page FF; segmented, the place wraps and the page stays.
-fn forward(linear: bool, bytes: u32, a: u32) -> u32
+// The page after the place has carried: linear it takes the carry, from FF to 0; segmented it stays.
+fn page_after(linear: bool, carried: u32, page: u32) -> u32
+    requires { ⌜ (carried ≤ 1) × (page < 65536) ⌝ }
+    ensures { λ r. ⌜ r ≡ pageAfter linear carried page ⌝ }
+{
+    if linear { (page + carried) % 256 } else { page }
+}
+
+// The address some bytes further, as `next_word` steps, for loops that have the step inlined: linear, one sum of page and place, which
+// carries and wraps by itself. Part by part rows and effects take longer (docs/DECISIONS.md, "The step in the code").
+fn forward_in_loops(linear: bool, bytes: u32, a: u32) -> u32
     requires { ⌜ bytes < 16777216 ⌝ }
     ensures { λ r. ⌜ r ≡ forward linear bytes a ⌝ }
 {

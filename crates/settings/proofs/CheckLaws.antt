@@ -6,7 +6,7 @@ use mathlib.Core.Bool.{Bool, true, false}
 use native.Mathlib.Omega.{arith}
 use lib.Dec.{lit≤}
 use Rattle.memory.specs.declared.Fault.{Fault}
-use Rattle.memory.specs.Reading.{done, _>>=_, given, refused, runFrom}
+use Rattle.memory.specs.Reading.{done, _>>=_, check, given, refused, runFrom}
 use Rattle.memory.proofs.ReadBounds.{Reads, implies, bind, check-reads}
 use Rattle.settings.specs.declared.Settings.{Settings}
 use Rattle.settings.specs.declared.SettingsCheck.{SettingsCheck}
@@ -27,7 +27,7 @@ passing-done σ h = rw (h .proper, h .straight)
 pub settings-read : (σ : Settings) → Reads (λ _. Passing σ) 0 (checkSettings σ)
 unfolding checkSettings
 settings-read σ =
-    bind {n = 0} {k = 0} (lit≤ tt) (check-reads 2 (good σ)) λ _ g.
+    bind {h = λ _. check 17 (σ .linear)} {n = 0} {k = 0} (lit≤ tt) (check-reads 2 (good σ)) λ _ g.
     implies (λ _ l. record { proper = g; straight = l }) (check-reads 17 (σ .linear))
 
 pub given-passing : (σ : Settings) (n : ℕ) (m : List ℕ) {k : ℕ} → runFrom n m (checkSettings σ) ≡ given k tt → Passing σ

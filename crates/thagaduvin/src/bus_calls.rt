@@ -32,5 +32,5 @@ pub extern "C" fn thagaduvin_bus(
         screen,
         row,
     };
-    bus::numbers::write_report(bus::count_row(before, handed_in), totals, answer)
+    bus::numbers::write_report(bus::report_by_value(before, handed_in), totals, answer)
 }

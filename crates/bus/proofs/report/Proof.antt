@@ -49,6 +49,7 @@ use Rattle.bus.proofs.Reported as R
 use Rattle.bus.proofs.Reported.Laws as R′
 use Rattle.bus.proofs.BusAnswer as N
 use Rattle.bus.proofs.BusAnswer.Laws as N′
+use Rattle.bus.proofs.Machine.{totals-val, row-val, totals-is, answer-is}
 use Rattle.bus.proofs.count_row as count-row
 use Rattle.bus.proofs.count_row.Symbol as count-row-def
 use Rattle.bus.proofs.count_row.Symbol.{name as #bus·count-row}
@@ -63,24 +64,6 @@ Arg = RefT Totals × (BusRow × Unit {0})
 
 abbrev stayed : Stays (report.ended .signature .params) (report.ended .kept)
 stayed = (stay-ref (0 ∷ []) tt (plain (λ _. T.the-row)), (stay-none (λ _. B.the-row) yes, tt))
-
--- the machine values of totals, of a row, and of what `count_row` returns
-abbrev totals-val : Totals → Val
-totals-val h = LL.tuple-val T.the-type T′.the-laws (T.the-type .to h)
-
-abbrev row-val : BusRow → Val
-row-val k = LL.tuple-val B.the-type B′.the-laws (B.the-type .to k)
-
-abbrev reported-val : Reported → Val
-reported-val r = LL.tuple-val R.the-type R′.the-laws (R.the-type .to r)
-
--- what whoever holds it knows of its totals and its answer
-module _ (r : Reported) (v : Val) (is : Is R.the-row r (v ∷ [])) where
-  totals-is : Is T.the-row (r .totals) (totals-val (r .totals) ∷ [])
-  totals-is = LL.owed R.the-type R′.the-laws r (v ∷ []) is .0
-
-  answer-is : Is N.the-row (r .answer) (EL.vals N.the-type N′.the-laws (r .answer))
-  answer-is = LL.owed R.the-type R′.the-laws r (v ∷ []) is .1 .0
 
 -- the contract that the proof cites
 abbrev CountRow : {M : Type 1} (𝓤 : URA M) (H : Heap 𝓤) (A : Atoms 𝓤) (mem : Memory → SProp 𝓤) (run : Routine → Fun 𝓤) → Contract 𝓤

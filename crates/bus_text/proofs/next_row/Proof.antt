@@ -25,7 +25,7 @@ returns c =
     let a = c .before .before .before .before .before .before .before .before .before .before .before .before .before .before .args in
     let words : Words (a .mem .now) = λ i. c .before .before .before .before .before .before .before .before .before .before .before .before .before .shared-slice-known .given i .fits in
     let e = rw (c .before .before .before .before .before .row .given .1) at (c .before .before .before .before .before .before .before .before .step .ensures .1) in
-    rw (← row-text (a .p) (a .mem .now) words _ refl e) (rw (c .before .before .count-row .ensures, c .before .before .before .handed-in .ensures) at (c .write-row .ensures (a .mem .now)))
+    rw (← row-text (a .p) (a .mem .now) words _ refl e) (rw (c .before .before .report-by-value .ensures, c .before .before .before .handed-in .ensures) at (c .write-row .ensures (a .mem .now)))
 
 returns-2 : tie.Need-returns-2
 returns-2 c =

@@ -14,7 +14,7 @@ use Rattle.listed.proofs.row.Tie as tie
 
 returns : tie.Need-returns
 unfolding rowListed rowCall
-returns c = (lit< tt, rw (c .refusal-of .ensures, c .before .fault-of .ensures, ne-eqb (length (c .before .before .before .before .before .before .before .args .buffer .now)) 132 (c .before .before .if1 .taken)))
+returns c = (lit< tt, rw (c .refusal-of .ensures, c .before .fault-of .ensures, ne-eqb (length (c .before .before .before .before .before .before .before .args .buffer .now)) 132 (c .before .before .if1 .taken)) refl)
 
 returns-2 : tie.Need-returns-2
 unfolding rowListed

@@ -16,7 +16,7 @@ returns-2 : tie.Need-returns-2
 returns-2 c =
     let a = c .before .before .args in
     let e : suc (a .count - 1) ≡ a .count = omega (arith, c .before .if1 .left) in
-    c .forward .ensures ∙ forward-cut (a .linear) (a .count) (a .a)
+    c .forward-in-loops .ensures ∙ forward-cut (a .linear) (a .count) (a .a)
     ∙ sym (rw e at (ahead-forward (a .linear) (a .count - 1) (a .a)))
 
 pub words-ahead-spec : {M : Type 1} → statement M

@@ -1,5 +1,5 @@
 -- The call's answer decides which line of `afterShift` it is: scroll and hard top are written, or the refusal.
-use mathlib.Core.Path.{ap}
+use mathlib.Core.Path.{ap, refl}
 use lib.ListN.{getD}
 use mir.Syntax.{w32}
 use mir.Val.{toZ}
@@ -32,7 +32,7 @@ returns-2 c =
     let bits = getD (start .args .scroll .now) 0 0 in
     let same = ap (toZ w32) (ofZ-toZ w32 bits (known .slice-known .given 0)) in
     let e = rw (at-signed-of .signed-of .ensures, same) at (at-shift .shift .ensures) in
-    rw (← e, refused .r .given .1, at-refuse .refuse .ensures .0, at-refuse .refuse .ensures .1)
+    rw (← e, refused .r .given .1, at-refuse .refuse .ensures .0, at-refuse .refuse .ensures .1) refl
 
 pub next-shift-spec : {M : Type 1} → statement M
 next-shift-spec =

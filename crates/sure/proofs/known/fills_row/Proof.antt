@@ -1,5 +1,5 @@
 -- Each turn adds the width of one segment: the sum so far and the widths that are left make the whole.
-use mathlib.Core.Path.{_≡_, sym, _∙_}
+use mathlib.Core.Path.{_≡_, refl, sym, _∙_}
 use mathlib.Core.Bool.{true}
 use Prim.Native.Nat.{_≤_, _+_, _-_, _*_}
 use native.Mathlib.Nat.{add-assoc, add-zero}
@@ -51,7 +51,7 @@ returns-2 c =
     let l = c .before .loop in
     let a = c .before .before .before .before .args in
     let g = segments-none true (a .count) (a .segments .now) (l .i) (omega arith) in
-    rw (not-false (a .flag) (c .before .before .before .if1 .left), l .inv .2, g, add-zero)
+    rw (not-false (a .flag) (c .before .before .before .if1 .left), l .inv .2, g, add-zero) refl
 
 pub fills-row-spec : {M : Type 1} → statement M
 fills-row-spec =

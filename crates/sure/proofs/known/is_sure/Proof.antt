@@ -1,4 +1,5 @@
 -- Without a window and with one, the tests are the definition's.
+use mathlib.Core.Path.{refl}
 use Rattle.sure.specs.Sure.{sureRow}
 use borrow.Author.Needs.{needs}
 use Rattle.sure.proofs.known.is_sure.Statement.{statement}
@@ -10,7 +11,7 @@ returns c = rw (c .before .before .enum-told .given .1, c .before .are-sure .ens
 
 returns-2 : tie.Need-returns-2
 unfolding sureRow
-returns-2 c = rw (c .before .before .before .before .overlay .given .1, c .before .are-sure2 .ensures, c .are-sure3 .ensures)
+returns-2 c = rw (c .before .before .before .before .overlay .given .1, c .before .are-sure2 .ensures, c .are-sure3 .ensures) refl
 
 pub is-sure-spec : {M : Type 1} → statement M
 is-sure-spec =

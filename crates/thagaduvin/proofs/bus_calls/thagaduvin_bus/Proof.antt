@@ -1,4 +1,4 @@
--- Each test of the code is one of `hostBus`'s; `count_row` gives the report, and `write_report` leaves it in the slices.
+-- Each test of the code is one of `hostBus`'s; `report_by_value` gives the report, and `write_report` leaves it in the slices.
 use borrow.Author.Tests.{eq-eqb, ne-eqb, le-leb, lt-leb}
 use Rattle.thagaduvin.specs.BusCalls.{hostBus}
 use borrow.Author.Needs.{needs}
@@ -21,8 +21,8 @@ returns-4 : tie.Need-returns-4
 unfolding hostBus
 returns-4 c =
     let at-write-report = c .before .before .before .before in
-    let at-count-row = at-write-report .before .before .before in
-    let at-totals-at = at-count-row .before in
+    let at-report = at-write-report .before .before .before in
+    let at-totals-at = at-report .before in
     let last-fits = at-totals-at .before .before in
     let answer-sized = last-fits .before .before in
     let totals-sized = answer-sized .before in
@@ -31,7 +31,7 @@ returns-4 c =
       eq-eqb _ 2 (answer-sized .if2 .left),
       le-leb _ 1 (last-fits .if3 .left),
       ← at-totals-at .totals-at .ensures,
-      ← at-count-row .count-row .ensures,
+      ← at-report .report-by-value .ensures,
     )
     (at-write-report .write-report .ensures)
 

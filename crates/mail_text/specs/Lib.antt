@@ -1,0 +1,2 @@
+pub mod MailText
+pub mod ToCome
