@@ -34,10 +34,7 @@ pub fn output(input: &[u8]) -> Vec<u8> {
         match console.script.read(input, at) {
             Ok(after) => at = after,
             Err(offset) => {
-                line(
-                    &mut console.out,
-                    format_args!("refused script at {offset}"),
-                );
+                line(&mut console.out, format_args!("refused script at {offset}"));
                 return console.out;
             }
         }

@@ -164,52 +164,105 @@ impl Picture {
         &self.of(scan.kind)[scan.index]
     }
 
-    /// The scan lines of the rows of a kind, first to last.
-    fn scans(&self, kind: Kind) -> Vec<Scan> {
-        let rows = self.of(kind).iter().enumerate();
-        rows.flat_map(|(index, row)| (0..row.height).map(move |line| Scan { kind, index, line }))
-            .collect()
+    fn heights(&self, kind: Kind) -> Vec<u32> {
+        self.of(kind).iter().map(|row| row.height).collect()
     }
 
     /// The lines of the screen: the scan line that stands still on each, and the one that glides there.
     pub fn screen(&self) -> Vec<(Option<Scan>, Option<Scan>)> {
-        let frame = self.scans(Kind::Frame);
-        // All that can glide onto the screen, and which of its lines is on line 0.
-        let mut strip = self.scans(Kind::Above);
-        let first = strip.len() as i64 + i64::from(self.shift);
-        strip.extend(&frame);
-        strip.extend(self.scans(Kind::Below));
-        (0..self.lines as usize)
-            .map(|y| {
-                let still = frame.get(y).copied();
-                let at = usize::try_from(first + y as i64).ok();
-                let gliding = at.and_then(|at| strip.get(at)).copied();
-                (still, still.and(gliding))
-            })
-            .collect()
+        let [above, rows, below] =
+            [Kind::Above, Kind::Frame, Kind::Below].map(|kind| self.heights(kind));
+        let strips = Strips::new(self.shift, &above, &rows, &below);
+        (0..self.lines as usize).map(|y| strips.line(y)).collect()
     }
 
     /// The cells of a line.
     pub fn shown(&self, still: Option<Scan>, gliding: Option<Scan>) -> Cells {
-        let Some(still) = still.map(|scan| self.row(&scan)) else {
-            return [NOTHING; CELLS];
-        };
-        let gliding = gliding.map(|scan| self.row(&scan));
-        let covers = |row: &PictureRow, x: usize| {
-            let inside = |(first, last)| (first..=last).contains(&(x as u32));
-            row.columns.is_some_and(inside)
-        };
-        std::array::from_fn(|x| {
-            let own = still.cells[x];
-            if covers(still, x) {
-                return own;
-            }
-            let cell = match gliding {
-                None => NOTHING,
-                Some(row) if covers(row, x) => row.behind.map_or(NOTHING, |cells| cells[x]),
-                Some(row) => row.cells[x],
-            };
-            cell & !CURSOR | own & CURSOR
-        })
+        let row = |scan: &Option<Scan>| scan.as_ref().map(|scan| self.row(scan));
+        let (still, gliding) = (row(&still), row(&gliding));
+        let behind = gliding.and_then(|row| row.behind.as_ref());
+        shown(
+            &Layer::of(still),
+            &Layer::of(gliding),
+            behind.map_or(&[], |cells| cells),
+        )
     }
+}
+
+/// Rows laid out scan line after scan line: those that stand still, and all that can glide onto the screen.
+pub struct Strips {
+    still: Vec<Scan>,
+    gliding: Vec<Scan>,
+    /// Which of the gliding ones is on line 0.
+    first: i64,
+}
+
+impl Strips {
+    pub fn new(shift: i32, above: &[u32], rows: &[u32], below: &[u32]) -> Strips {
+        let scans = |kind, heights: &[u32]| -> Vec<Scan> {
+            let rows = heights.iter().enumerate();
+            rows.flat_map(|(index, &height)| {
+                (0..height).map(move |line| Scan { kind, index, line })
+            })
+            .collect()
+        };
+        let still = scans(Kind::Frame, rows);
+        let mut gliding = scans(Kind::Above, above);
+        let first = gliding.len() as i64 + i64::from(shift);
+        gliding.extend(&still);
+        gliding.extend(scans(Kind::Below, below));
+        Strips {
+            still,
+            gliding,
+            first,
+        }
+    }
+
+    /// A line of the screen.
+    pub fn line(&self, y: usize) -> (Option<Scan>, Option<Scan>) {
+        let still = self.still.get(y).copied();
+        let at = usize::try_from(self.first + y as i64).ok();
+        let gliding = at.and_then(|at| self.gliding.get(at)).copied();
+        (still, still.and(gliding))
+    }
+}
+
+/// A row that a line shows: its cells, none where there is no row, and the first and last column of its window.
+#[derive(Clone, Copy, Debug)]
+pub struct Layer<'a> {
+    pub cells: &'a [u32],
+    pub columns: Option<(u32, u32)>,
+}
+
+impl Layer<'_> {
+    fn of(row: Option<&PictureRow>) -> Layer<'_> {
+        Layer {
+            cells: row.map_or(&[], |row| &row.cells),
+            columns: row.and_then(|row| row.columns),
+        }
+    }
+
+    fn covers(&self, x: usize) -> bool {
+        self.columns
+            .is_some_and(|(first, last)| (first..=last).contains(&(x as u32)))
+    }
+}
+
+/// The cells of a line, from the row that stands still, the one that glides, and what is behind the latter's window.
+pub fn shown(still: &Layer, gliding: &Layer, behind: &[u32]) -> Cells {
+    let cell = |cells: &[u32], x: usize| cells.get(x).copied().unwrap_or(NOTHING);
+    if still.cells.is_empty() {
+        return [NOTHING; CELLS];
+    }
+    std::array::from_fn(|x| {
+        let own = still.cells[x];
+        if still.covers(x) {
+            return own;
+        }
+        let glides = match gliding.covers(x) && !gliding.cells.is_empty() {
+            true => cell(behind, x),
+            false => cell(gliding.cells, x),
+        };
+        glides & !CURSOR | own & CURSOR
+    })
 }
