@@ -1,1 +1,3 @@
 pub mod Picture
+pub mod Heights
+pub mod EveryLine
