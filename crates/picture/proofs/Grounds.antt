@@ -43,9 +43,9 @@ from-start {A} n m p {k} {a} e = by (run m p) (sym (run-after n m p) ∙ e)
     by (refused x) h = never h
 
 -- a reading that goes on has come to something first
-pub then : {A B P : Type 0} (n : ℕ) (m : List ℕ) (p : Reading A) (k : A → Reading B) {j : ℕ} {b : B} → runFrom n m (p >>= k) ≡ given j b
+pub came-to : {A B P : Type 0} (n : ℕ) (m : List ℕ) (p : Reading A) (k : A → Reading B) {j : ℕ} {b : B} → runFrom n m (p >>= k) ≡ given j b
     → ((i : ℕ) (a : A) → runFrom n m p ≡ given i a → runFrom i m (k a) ≡ given j b → P) → P
-then {A} {P} n m p k {j} {b} e f = by (came-by n m p k e)
+came-to {A} {P} n m p k {j} {b} e f = by (came-by n m p k e)
   where
     by : Came n m p k (given j b) → P
     by (came {i} {a} c last) = f i a c last
@@ -75,19 +75,19 @@ module _ (σ : Settings) (m : List ℕ) where
       → (i : ℕ) × (run m (backgroundBlock (σ .linear) (f .next) (f .format)) ≡ given i g)
   unfolding backgroundRow runFrom
   background-read n f {g} e =
-      then n m (backgroundBlock (σ .linear) (f .next) (f .format)) _ e λ i h read e₁.
-      then i m (checkOf 9 (f .next) (allFit (h .block .segments))) _ e₁ λ j _ _ e₂.
-      then j m (checkOf 10 (f .next) (leb (total (σ .hidden) (h .block .segments)) 132)) _ e₂ λ k _ _ e₃.
+      came-to n m (backgroundBlock (σ .linear) (f .next) (f .format)) _ e λ i h read e₁.
+      came-to i m (checkOf 9 (f .next) (allFit (h .block .segments))) _ e₁ λ j _ _ e₂.
+      came-to j m (checkOf 10 (f .next) (leb (total (σ .hidden) (h .block .segments)) 132)) _ e₂ λ k _ _ e₃.
       let same : h ≡ g = cc in
       from-start n m (backgroundBlock (σ .linear) (f .next) (f .format)) (rw same at read)
 
   blocks-read : (f : Fields) → Lines (f .format .lines) → {k : ℕ} {p : Plan} → run m (fromBlocks σ f) ≡ given k p → Grounded f (p .lines) (p .next)
   unfolding runFrom
   blocks-read f tall {p} e =
-      then 0 m (dueWindow (σ .linear) (f .row) (f .window)) _ e λ i w _ e₁.
-      then i m (backgroundRow σ f) _ e₁ λ j g read e₂.
-      then j m (overlaid σ (f .row) w) _ e₂ λ k o _ e₃.
-      then k m (check 12 (edgesFit (σ .hidden) (o .overlay) (g .block .segments))) _ e₃ λ l _ _ e₄.
+      came-to 0 m (dueWindow (σ .linear) (f .row) (f .window)) _ e λ i w _ e₁.
+      came-to i m (backgroundRow σ f) _ e₁ λ j g read e₂.
+      came-to j m (overlaid σ (f .row) w) _ e₂ λ k o _ e₃.
+      came-to k m (check 12 (edgesFit (σ .hidden) (o .overlay) (g .block .segments))) _ e₃ λ l _ _ e₄.
       let same : planned f g o ≡ p = cc in
       let b = background-read i f read in
       record {
@@ -104,8 +104,8 @@ module _ (σ : Settings) (m : List ℕ) where
   unfolding row plan runFrom
   row-grounded s {n} {r} e =
       let f = s .fields in
-      then 0 m (plan σ f) (fromPlan σ (f .fill) (s .latch)) e λ i p planned last.
-      then i m (rowCells (codeSettings σ) (f .fill) (p .overlay) (p .segments) (blank (s .latch))) _ last λ j d _ drawn.
+      came-to 0 m (plan σ f) (fromPlan σ (f .fill) (s .latch)) e λ i p planned last.
+      came-to i m (rowCells (codeSettings σ) (f .fill) (p .overlay) (p .segments) (blank (s .latch))) _ last λ j d _ drawn.
       let same : drawnBy p d ≡ r = cc in
       let good = settings-passed 0 m σ (λ _. fromState σ f) planned in
       let range = passed 0 m 3 (inRange f) _ (good .1) in
@@ -149,8 +149,8 @@ module _ (latch : ℕ) (σ : Settings) (m : List ℕ) where
   unfolding startFrom windowStart runFrom
   start-read {n} {s} e =
       let settled = settings-passed 0 m σ (λ _. mainStart latch σ) e in
-      then 0 m (topBlock (σ .linear) (σ .top)) (windowStart latch σ) (settled .1) λ i main read e₁.
-      then i m (firstWindow (σ .linear) (registered (σ .linear) (σ .tow))) _ e₁ λ j w _ e₂.
+      came-to 0 m (topBlock (σ .linear) (σ .top)) (windowStart latch σ) (settled .1) λ i main read e₁.
+      came-to i m (firstWindow (σ .linear) (registered (σ .linear) (σ .tow))) _ e₁ λ j w _ e₂.
       let same : stateOf latch (firstFields σ main w) ≡ s = cc in
       record { words = i; main = main; window = w; read = read; leads = ap (λ (s : State). s .fields) (sym same) }
 

@@ -3,3 +3,5 @@ pub mod Following
 pub mod Heights
 pub mod Places
 pub mod EveryLine
+pub mod ShiftCalls
+pub mod FirstRow

@@ -1,3 +1,4 @@
 pub mod Picture
 pub mod Heights
 pub mod EveryLine
+pub mod AfterShift

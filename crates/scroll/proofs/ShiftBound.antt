@@ -57,7 +57,7 @@ first-reads : (linear : Bool) (m : MainBlock) → Lines (m .lines) → Reads Lin
 unfolding firstLines
 first-reads linear m h = bind {n = 83} {k = 0} (lit≤ tt) (block-reads linear (m .rows) _ h) λ _ k. dones k
 
-edge-reads : (linear : Bool) (soft : PointerWords) (hard : MainBlock) → Lines (hard .lines) → Reads Lines 90 (edgeLines linear soft hard)
+pub edge-reads : (linear : Bool) (soft : PointerWords) (hard : MainBlock) → Lines (hard .lines) → Reads Lines 90 (edgeLines linear soft hard)
 unfolding edgeLines
 edge-reads linear soft hard h =
     if-reads (upward hard) (λ _. weaken (lit≤ tt) (first-reads linear hard h)) λ _.
