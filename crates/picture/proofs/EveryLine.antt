@@ -35,7 +35,7 @@ module _ (σ : Settings) (m : List ℕ) (w : Words m) (n : ℕ) where
   below-sum none none h k ok = refuses-none (sym k)
   below-sum (some r) s h k ok = refuses-none h
 
-  frame-below : (latch : ℕ) → frame latch σ m .refusal ≡ none → refusalBelow σ m n (frame latch σ m .state) ≡ none
+  pub frame-below : (latch : ℕ) → frame latch σ m .refusal ≡ none → refusalBelow σ m n (frame latch σ m .state) ≡ none
       → n ≤ sum (heightsOf (belowRows σ m n (frame latch σ m)))
   unfolding belowRows
   frame-below latch ok below = by (frame-ends σ m w latch)

@@ -116,14 +116,14 @@ module _ (σ : Settings) (m : List ℕ) (soft : PointerWords) where
       by (off {hard} read h same) = rw (← same) (stands (lines-back (upward hard) 0))
       by (on {hard} {n} read h edge same) = rw (← same) (by-reaching hard read edge (reaches (upward hard) n (σ .top) soft _))
 
-same-first : {linear : Bool} {top : PointerWords} {m : List ℕ} {a b : ℕ} → FirstOf linear top m a → FirstOf linear top m b → a ≡ b
+pub same-first : {linear : Bool} {top : PointerWords} {m : List ℕ} {a b : ℕ} → FirstOf linear top m a → FirstOf linear top m b → a ≡ b
 same-first {linear} {m} {a} {b} (firstOf {main} top lines) (firstOf {main = main′} {k} top′ lines′) =
     let one : main′ ≡ main = cc in
     let both : run m (firstLines linear main) ≡ given k b = rw one at lines′ in
     cc
 
 -- the line at the top of a picture that is shifted up by less than its row 0
-place-first : (x : ℕ) (hs : List ℕ) (z : ℕ) → z < x → place (x ∷ hs) z ≡ At (placeAt 0 z (x - z))
+pub place-first : (x : ℕ) (hs : List ℕ) (z : ℕ) → z < x → place (x ∷ hs) z ≡ At (placeAt 0 z (x - z))
 unfolding place
 place-first x hs z h = rw (lt-ltb z x h)
 

@@ -5,3 +5,5 @@ pub mod Places
 pub mod EveryLine
 pub mod ShiftCalls
 pub mod FirstRow
+pub mod BlockChains
+pub mod Ending

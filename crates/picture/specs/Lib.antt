@@ -2,3 +2,4 @@ pub mod Picture
 pub mod Heights
 pub mod EveryLine
 pub mod AfterShift
+pub mod Ending
