@@ -1,15 +1,15 @@
 -- The heights of rows depend on the chain of row blocks and on the scan lines handed down: two chains from one address have the same as far
 -- as both go. Where a pointer begins is in no height.
-use mathlib.Core.Path.{_≡_, refl, sym, ap, _∙_}
+use mathlib.Core.Path.{_≡_, refl, ap}
 use mathlib.Core.Bool.{Bool, true, false}
 use mathlib.Core.List.{List, [], _∷_, _++_}
-use mathlib.Core.Option.{Option, none, some}
-use Prim.Native.Nat.{ℕ, _≤_, _<_}
+use mathlib.Core.Option.{some}
+use Prim.Native.Nat.{ℕ}
 use lib.ListN.{getElem?}
 use lib.Dec.{eqb}
 use Rattle.memory.specs.declared.Pointer.{Pointer}
 use Rattle.memory.specs.Word.{if_then_else_}
-use Rattle.memory.specs.Reading.{Reading, done, _>>=_, Outcome, given, refused, run, asked}
+use Rattle.memory.specs.Reading.{Reading, done, _>>=_, Outcome, given, run}
 use Rattle.memory.specs.Address.{null, words}
 use Rattle.memory.proofs.Agree.{All, none as noneAsked, also, SameWord}
 use Rattle.blocks.specs.declared.RowFormat.{RowFormat}
@@ -18,6 +18,7 @@ use Rattle.background.specs.Background.{BackgroundRow, backgroundBlock}
 use Rattle.insertion.proofs.Near.{Near, dones, bind, bind-same, weaken, open-near, Outcomes, givens, refuseds, run-near, at}
 use Rattle.insertion.proofs.Accepted.{never}
 use Rattle.insertion.proofs.Blocks.{BlockAlike, blocks, block-opens, block-null}
+use Rattle.picture.proofs.Places.{Along, left, right, both}
 
 -- ---- one block ----
 all-same : (m xs : List ℕ) → All (SameWord m m) xs
@@ -80,12 +81,6 @@ module _ {linear : Bool} {m : List ℕ} where
       → BlockChain linear m p t (hs ++ ks) r v
   join here b = b
   join (link e a) b = link e (join a b)
-
--- the same as far as both go
-pub data Along : List ℕ → List ℕ → Type 0 where
-  left : {ks : List ℕ} → Along [] ks
-  right : {hs : List ℕ} → Along hs []
-  both : {h : ℕ} {hs ks : List ℕ} → Along hs ks → Along (h ∷ hs) (h ∷ ks)
 
 more : {h k : ℕ} {hs ks : List ℕ} → h ≡ k → Along hs ks → Along (h ∷ hs) (k ∷ ks)
 more e a = rw e (both a)

@@ -3,14 +3,12 @@ use mathlib.Core.Path.{_≡_, refl, sym, ap, subst, _∙_}
 use mathlib.Core.Bool.{Bool, true, false}
 use mathlib.Core.List.{List, [], _∷_, _++_, append-nil}
 use mathlib.Core.Option.{Option, none, some}
-use Prim.Native.Nat.{ℕ, zero, suc, _+_, _-_, _≤_, _<_, zero-le}
+use Prim.Native.Nat.{ℕ, _+_, _-_, _≤_, _<_}
 use native.Mathlib.Omega.{arith}
-use native.Mathlib.Nat.{le-refl}
-use lib.IntN.{ℤ, pos, negsuc, natAbs}
+use lib.IntN.{pos, negsuc, natAbs}
 use lib.ListN.{getElem?}
-use lib.Dec.{ltb, leb}
-use borrow.Author.Tests.{ltb-true, ltb-false, le-leb, le-ltb}
-use Rattle.memory.specs.Word.{if_then_else_}
+use lib.Dec.{ltb}
+use borrow.Author.Tests.{ltb-true, ltb-false, le-leb}
 use Rattle.memory.specs.declared.Pointer.{Pointer}
 use Rattle.memory.specs.Reading.{given, run}
 use Rattle.memory.proofs.ReadBounds.{Words, if-cases}
@@ -28,24 +26,23 @@ use Rattle.start.specs.Start.{firstFormat, firstFields}
 use Rattle.frame.specs.declared.Progress.{Progress}
 use Rattle.frame.specs.declared.BeginAnswer.the-variants as Begin
 use Rattle.frame.specs.Step.{begin}
-use Rattle.frame.specs.Frame.{FrameRow, rest, fromBegin, frame}
+use Rattle.frame.specs.Frame.{FrameRow, rest, frame}
 use Rattle.frame.proofs.Frames.{Ends, complete, refusing, rest-ends}
 use Rattle.beside.specs.Beside.{withTop}
 use Rattle.panel.specs.declared.Placed.{Placed}
 use Rattle.panel.specs.declared.Placed.the-variants.{Nowhere, At}
-use Rattle.panel.specs.declared.Background.{Background}
-use Rattle.panel.specs.declared.Background.the-variants.{Nothing, Row, Above}
+use Rattle.panel.specs.declared.Background.the-variants.{Above}
 use Rattle.panel.specs.Line.{placeAt, later, place, rowAt, aboveAt, isDown}
-use Rattle.picture.specs.Picture.{PictureRow, Picture, pictureRow, pictureRows, rowsFrom, begunRows, frameRows, onward, belowOf, belowRows, aboveRow, picture, heightAbove, heightsOf, lineOn, first}
+use Rattle.picture.specs.Picture.{PictureRow, Picture, pictureRow, pictureRows, rowsFrom, frameRows, onward, belowOf, belowRows, aboveRow, picture, heightAbove, heightsOf, lineOn, first}
 use Rattle.picture.specs.EveryLine.{refusalBelow}
 use Rattle.picture.specs.Ending.{Linked, linked, SameNext, oneFurther, EndsUp, EndsDown}
-use Rattle.picture.proofs.Grounds.{Grounded, row-grounded, Started, Opening, opened, closed, opening}
+use Rattle.picture.proofs.Grounds.{row-grounded, Started, Opening, opened, closed, opening}
 use Rattle.picture.proofs.Following.{Follows, stops, draws, rest-following}
 use Rattle.picture.proofs.Heights.{refuses-none, rows-fill}
-use Rattle.picture.proofs.Places.{sum, sum-append, place-front, place-next, fills-sum, line-up, line-above, line-down}
+use Rattle.picture.proofs.Places.{sum, sum-append, Along, along-place, place-front, place-next, fills-sum, line-up, line-above, line-down}
 use Rattle.picture.proofs.EveryLine.{frame-below}
 use Rattle.picture.proofs.FirstRow.{frame-first, above-first, same-first, place-first}
-use Rattle.picture.proofs.BlockChains.{BlockChain, here, link, join, Along, left, right, both, along-first}
+use Rattle.picture.proofs.BlockChains.{BlockChain, here, link, join, along-first}
 
 -- ---- the chains of a picture's rows ----
 more-chain : {linear : Bool} {m : List ℕ} {p p′ q : Pointer} {t t′ u : RowFormat} {g : BackgroundRow} {h k : ℕ} {hs : List ℕ}
@@ -124,17 +121,6 @@ linked-along {linear} {m} (linked {a} {b} {g} {k} reads-a reads-b reads-g same) 
     let own : run m (backgroundBlock linear (a .rows) (firstFormat (a .lines))) ≡ given words ground = rw one at block in
     let three : ground ≡ g = cc in
     along-first (rw (two, three) (sym same)) next rows rows′
-
-along-place : {hs ks : List ℕ} → Along hs ks → (z : ℕ) → z < sum hs → z < sum ks → place hs z ≡ place ks z
-unfolding place
-along-place left z h k = absurd (omega arith)
-along-place right z h k = absurd (omega arith)
-along-place (both {h = x} {hs} {ks} a) z h k = by (λ past. along-place a (z - x) (omega arith) (omega arith)) (ltb z x) refl
-  where
-    by : (x ≤ z → place hs (z - x) ≡ place ks (z - x)) → (t : Bool) → ltb z x ≡ t
-        → (if t then At (placeAt 0 z (x - z)) else later (place hs (z - x))) ≡ (if t then At (placeAt 0 z (x - z)) else later (place ks (z - x)))
-    by go-on true e = refl
-    by go-on false e = ap later (go-on (ltb-false z x e))
 
 -- past row 0 of one list a line has the place that it has in the other
 next-place : (hs ks : List ℕ) (n y : ℕ) → getElem? hs 0 ≡ some n → ((rest : List ℕ) → hs ≡ n ∷ rest → Along rest ks) → y + n < sum hs → y < sum ks

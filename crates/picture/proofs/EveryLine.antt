@@ -3,24 +3,21 @@ use mathlib.Core.Path.{_≡_, refl, sym, ap, _∙_}
 use mathlib.Core.Bool.{Bool, true, false}
 use mathlib.Core.List.{List, [], _∷_, _++_}
 use mathlib.Core.Option.{Option, none, some}
-use Prim.Native.Nat.{ℕ, zero, suc, _+_, _-_, _≤_, _<_, zero-le}
+use Prim.Native.Nat.{ℕ, _+_, _-_, _≤_, _<_, zero-le}
 use native.Mathlib.Omega.{arith}
-use lib.IntN.{ℤ, pos, negsuc, natAbs}
-use lib.Signed.{ltZ}
+use lib.IntN.{pos, negsuc, natAbs}
 use lib.Dec.{ltb, leb}
 use borrow.Author.Tests.{ltb-true, ltb-false, leb-true, leb-false, le-leb, le-ltb}
 use Rattle.memory.specs.declared.Refusal.{Refusal}
 use Rattle.memory.proofs.ReadBounds.{Words, if-cases}
-use Rattle.memory.specs.Word.{if_then_else_}
-use Rattle.settings.specs.declared.PointerWords.{PointerWords}
 use Rattle.settings.specs.declared.Settings.{Settings}
 use Rattle.settings.specs.Timing.{linesForRows}
 use Rattle.state.specs.declared.State.{State}
-use Rattle.frame.specs.Frame.{Frame, rest, frame}
+use Rattle.frame.specs.Frame.{frame}
 use Rattle.frame.proofs.Frames.{Ends, complete, refusing, frame-ends}
 use Rattle.insertion.specs.Insertion.{linesOf}
 use Rattle.panel.specs.declared.Background.{Background}
-use Rattle.panel.specs.declared.Background.the-variants.{Nothing, Row, Above}
+use Rattle.panel.specs.declared.Background.the-variants.{Nothing}
 use Rattle.panel.specs.Line.{place, rowAt, aboveAt, isDown}
 use Rattle.picture.specs.Picture.{PictureRow, Picture, frameRows, belowOf, onward, belowRows, picture, heightAbove, heightsOf, lineOn}
 use Rattle.picture.specs.EveryLine.{Everywhere, refusalBelow, EveryLine, firstOf, withOneBelow, lastOf, OneIsEnough}

@@ -5,10 +5,8 @@ use mathlib.Core.List.{List, [], _∷_, _++_}
 use mathlib.Core.Option.{Option, none, some}
 use Prim.Native.Nat.{ℕ, zero, suc, _+_, _-_, _≤_, _<_, zero-le}
 use native.Mathlib.Omega.{arith}
-use lib.IntN.{ℤ, pos, negsuc, negℤ, natAbs}
-use lib.Dec.{ltb}
+use lib.IntN.{ℤ, natAbs}
 use borrow.Author.Tests.{lt-ltb, le-ltb}
-use Rattle.memory.specs.Word.{if_then_else_}
 use Rattle.memory.specs.Reading.{_>>=_, given, run}
 use Rattle.memory.proofs.Laws.{bind-given, run-done}
 use Rattle.memory.proofs.ReadBounds.{Words}
@@ -20,25 +18,22 @@ use Rattle.state.specs.declared.State.{State}
 use Rattle.background.specs.Background.{backgroundBlock}
 use Rattle.start.specs.Top.{upward, topBlock}
 use Rattle.start.specs.Start.{firstFields}
-use Rattle.frame.specs.declared.Progress.{Progress}
-use Rattle.frame.specs.Step.{begin}
 use Rattle.frame.specs.Frame.{FrameRow}
 use Rattle.beside.specs.Beside.{withTop}
 use Rattle.scroll.specs.declared.Offset.{Offset}
 use Rattle.scroll.specs.declared.Scroll.{Scroll}
 use Rattle.scroll.specs.declared.FrameShift.{FrameShift}
 use Rattle.scroll.specs.declared.ShiftAnswer.the-variants.{Accepted}
-use Rattle.scroll.specs.Scroll.{signed, shifted, still, firstLines, edgeLines, shiftCall}
+use Rattle.scroll.specs.Scroll.{signed, shifted, firstLines, edgeLines, shiftCall}
 use Rattle.scroll.proofs.ShiftBound.{lines-back}
 use Rattle.insertion.proofs.Chains.{drawnRow}
-use Rattle.panel.specs.declared.Placed.{Placed}
 use Rattle.panel.specs.declared.Placed.the-variants.{At}
 use Rattle.panel.specs.declared.Background.the-variants.{Row}
 use Rattle.panel.specs.Line.{placeAt, place, rowAt, isDown}
 use Rattle.picture.specs.Picture.{PictureRow, Picture, pictureRow, pictureRows, frameRows, aboveRow, picture, heightsOf, lineOn, first}
 use Rattle.picture.specs.Heights.{Tall}
 use Rattle.picture.specs.AfterShift.{BelowFirstRow}
-use Rattle.picture.proofs.Grounds.{from-start, came-to, Grounded, row-grounded, height-is, Started, Opening, opened, closed, opening}
+use Rattle.picture.proofs.Grounds.{from-start, came-to, row-grounded, height-is, Started, Opening, opened, closed, opening}
 use Rattle.picture.proofs.Following.{Follows, stops, draws, following, rest-following}
 use Rattle.picture.proofs.Heights.{refuses-none, frame-tall, above-tall}
 use Rattle.picture.proofs.Places.{sum, line-up}

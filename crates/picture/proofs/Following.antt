@@ -1,10 +1,10 @@
 -- A frame, accepted or not, as the rows that follow one another: each is an accepted row of the state that the one before gave. From
 -- this its heights are 1 to 32, and the rows of an accepted one fill the screen.
-use mathlib.Core.Path.{_≡_, refl, sym, ap, subst, _∙_}
+use mathlib.Core.Path.{_≡_, refl, sym, ap, subst}
 use mathlib.Core.Bool.{Bool, true, false}
 use mathlib.Core.List.{List, [], _∷_}
 use mathlib.Core.Option.{Option, none, some}
-use Prim.Native.Nat.{ℕ, zero, suc, _+_, _-_, _≤_, _<_}
+use Prim.Native.Nat.{ℕ, zero, suc, _+_, _≤_}
 use native.Mathlib.Omega.{arith}
 use lib.Dec.{eqb}
 use borrow.Author.Tests.{eqb-true, eqb-false}
@@ -19,7 +19,7 @@ use Rattle.frame.specs.Frame.{FrameRow, Frame, byStep, blank, within, rest}
 use Rattle.frame.proofs.StepLaws.{no-line, by-row}
 use Rattle.insertion.specs.Insertion.{linesOf}
 use Rattle.insertion.proofs.Chains.{nextOf, drawnRow, right-buffer}
-use Rattle.picture.specs.Picture.{pictureRow, pictureRows, heightsOf, rowsFrom}
+use Rattle.picture.specs.Picture.{pictureRow, pictureRows, heightsOf}
 use Rattle.picture.specs.Heights.{Tall, Cut, Fills, empty, last, whole}
 use Rattle.picture.proofs.Grounds.{Grounded, row-grounded, height-bounds, lines-taken, lines-left}
 

@@ -1,13 +1,13 @@
 -- What the height of an accepted row comes from: its row block and the redefinition, read from the next row block and the format of its
 -- state alone. Neither the window nor the latch has a part in it.
 use mathlib.Core.Path.{_≡_, refl, sym, ap, _∙_}
-use mathlib.Core.Bool.{Bool, true, false}
+use mathlib.Core.Bool.{true}
 use mathlib.Core.List.{List}
-use Prim.Native.Nat.{ℕ, _+_, _-_, _≤_, min}
+use Prim.Native.Nat.{ℕ, _+_, _-_, min}
 use native.Mathlib.Omega.{arith}
 use lib.Dec.{leb, ltb}
 use borrow.Author.Tests.{leb-true}
-use Rattle.memory.specs.Reading.{Reading, done, _>>=_, check, checkOf, Outcome, given, refused, refusal, runFrom, run}
+use Rattle.memory.specs.Reading.{Reading, _>>=_, check, checkOf, Outcome, given, refused, refusal, runFrom, run}
 use Rattle.memory.specs.declared.Refusal.{Refusal}
 use Rattle.memory.proofs.Laws.{after, run-after}
 use Rattle.memory.proofs.ReadBounds.{Words, both, reads-given}
@@ -18,7 +18,6 @@ use Rattle.windows.specs.Window.{dueWindow, firstWindow}
 use Rattle.state.specs.declared.Fields.{Fields}
 use Rattle.state.specs.declared.State.{State}
 use Rattle.state.specs.State.{stateOf, formatInRange, pointerInRange, windowInRange, inRange}
-use Rattle.state.proofs.StateLaws.{has-line}
 use Rattle.layout.specs.Layout.{total, allFit, edgesFit}
 use Rattle.layout.specs.Overlay.{overlaid}
 use Rattle.background.specs.Background.{BackgroundRow, backgroundBlock, backgroundRow}

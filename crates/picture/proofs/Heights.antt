@@ -1,15 +1,13 @@
 -- Every row of a picture is an accepted row, so that its height is 1 to 32; and a frame is accepted where no line is left.
-use mathlib.Core.Path.{_≡_, refl, sym, ap, _∙_}
-use mathlib.Core.Bool.{Bool, true, false}
-use mathlib.Core.List.{List, [], _∷_}
+use mathlib.Core.Path.{_≡_, sym, ap, _∙_}
+use mathlib.Core.List.{List}
 use mathlib.Core.Option.{Option, none, some}
-use Prim.Native.Nat.{ℕ, _≤_}
+use Prim.Native.Nat.{ℕ}
 use native.Mathlib.Omega.{arith}
-use lib.IntN.{ℤ, pos, natAbs}
+use lib.IntN.{pos, natAbs}
 use lib.Signed.{ltZ}
 use Rattle.memory.specs.declared.Refusal.{Refusal}
 use Rattle.memory.proofs.ReadBounds.{Words, if-cases}
-use Rattle.settings.specs.declared.PointerWords.{PointerWords}
 use Rattle.settings.specs.declared.Settings.{Settings}
 use Rattle.settings.specs.Timing.{linesForRows}
 use Rattle.start.specs.Start.{firstFields}
@@ -19,14 +17,13 @@ use Rattle.frame.specs.declared.Progress.{Progress}
 use Rattle.frame.specs.declared.BeginAnswer.{BeginAnswer}
 use Rattle.frame.specs.declared.BeginAnswer.the-variants as Begin
 use Rattle.frame.specs.Step.{begin}
-use Rattle.frame.specs.Frame.{Frame, rest, within, fromBegin, frame}
+use Rattle.frame.specs.Frame.{Frame, rest, fromBegin, frame}
 use Rattle.frame.proofs.Frames.{Ends, complete, refusing, rest-ends}
-use Rattle.beside.specs.Beside.{withTop}
 use Rattle.insertion.specs.Insertion.{linesOf}
 use Rattle.panel.specs.Line.{isDown}
-use Rattle.picture.specs.Picture.{PictureRow, pictureRows, rowsFrom, begunRows, frameRows, belowOf, onward, belowRows, firstRow, aboveRow, picture, heightsOf}
+use Rattle.picture.specs.Picture.{rowsFrom, begunRows, frameRows, belowOf, onward, belowRows, firstRow, aboveRow, picture, heightsOf}
 use Rattle.picture.specs.Heights.{Tall, Cut, RowsAreTall, RowsAreCut, Fills, RowsFill}
-use Rattle.picture.proofs.Grounds.{Started, Opening, opened, closed, opening}
+use Rattle.picture.proofs.Grounds.{Opening, opened, closed, opening}
 use Rattle.picture.proofs.Following.{following, rest-following, follows-tall, follows-cut, follows-fills}
 
 -- a frame that is refused is not accepted
@@ -77,7 +74,7 @@ unfolding picture
 rows-are-tall shift soft latch σ m w = (
   frame-tall σ m w latch,
   if-cases Tall (ltZ (pos 0) shift) (λ _. below-tall σ m w (natAbs shift) (frame latch σ m)) (λ _. tt),
-  if-cases Tall (isDown shift) (λ _. above-tall (withTop σ soft) m w latch) (λ _. tt),
+  if-cases Tall (isDown shift) (λ _. above-tall _ m w latch) (λ _. tt),
 )
 
 pub rows-are-cut : RowsAreCut

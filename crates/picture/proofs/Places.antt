@@ -1,19 +1,18 @@
 -- A line has a place in rows exactly where it is above their heights together; and the rows after it do not matter.
-use mathlib.Core.Path.{_≡_, refl, sym, ap, _∙_}
+use mathlib.Core.Path.{_≡_, refl, ap, _∙_}
 use mathlib.Core.Bool.{Bool, true, false}
 use mathlib.Core.List.{List, [], _∷_, _++_}
-use Prim.Native.Nat.{ℕ, zero, suc, _+_, _-_, _≤_, _<_}
+use Prim.Native.Nat.{ℕ, _+_, _-_, _≤_, _<_}
 use native.Mathlib.Omega.{arith}
 use lib.IntN.{ℤ, natAbs}
 use lib.ListN.{length, take}
-use lib.Dec.{ltb, leb}
-use borrow.Author.Tests.{ltb-false, lt-ltb, le-ltb, le-leb}
+use lib.Dec.{ltb}
+use borrow.Author.Tests.{ltb-false, lt-ltb, le-ltb}
 use Rattle.memory.proofs.ReadBounds.{if-cases}
 use Rattle.memory.specs.Word.{if_then_else_}
 use Rattle.panel.specs.declared.Placed.{Placed}
 use Rattle.panel.specs.declared.Placed.the-variants.{Nowhere, At}
-use Rattle.panel.specs.declared.Background.{Background}
-use Rattle.panel.specs.declared.Background.the-variants.{Nothing, Row, Above}
+use Rattle.panel.specs.declared.Background.the-variants.{Nothing}
 use Rattle.panel.specs.Line.{placeAt, later, place, rowAt, aboveAt, isDown, background, still, lineAt, line}
 use Rattle.picture.specs.Picture.{PictureRow, Picture, heightAbove, heightsOf, lineOn}
 use Rattle.picture.specs.EveryLine.{lastOf}
@@ -51,15 +50,29 @@ unfolding place
 place-past [] z h = refl
 place-past (x ∷ hs) z h = rw (le-ltb z x (omega arith), place-past hs (z - x) (omega arith))
 
-pub place-front : (hs ks : List ℕ) (z : ℕ) → z < sum hs → place (hs ++ ks) z ≡ place hs z
+-- heights that are the same as far as both lists go: a line that both have has one place in them
+pub data Along : List ℕ → List ℕ → Type 0 where
+  left : {ks : List ℕ} → Along [] ks
+  right : {hs : List ℕ} → Along hs []
+  both : {h : ℕ} {hs ks : List ℕ} → Along hs ks → Along (h ∷ hs) (h ∷ ks)
+
+pub along-place : {hs ks : List ℕ} → Along hs ks → (z : ℕ) → z < sum hs → z < sum ks → place hs z ≡ place ks z
 unfolding place
-place-front [] ks z h = absurd (omega arith)
-place-front (x ∷ hs) ks z h = by (λ past. place-front hs ks (z - x) (omega arith)) (ltb z x) refl
+along-place left z h k = absurd (omega arith)
+along-place right z h k = absurd (omega arith)
+along-place (both {h = x} {hs} {ks} a) z h k = by (λ past. along-place a (z - x) (omega arith) (omega arith)) (ltb z x) refl
   where
-    by : (x ≤ z → place (hs ++ ks) (z - x) ≡ place hs (z - x)) → (t : Bool) → ltb z x ≡ t → (if t then At (placeAt 0 z (x - z)) else later (place (hs ++ ks) (z - x)))
-        ≡ (if t then At (placeAt 0 z (x - z)) else later (place hs (z - x)))
+    by : (x ≤ z → place hs (z - x) ≡ place ks (z - x)) → (t : Bool) → ltb z x ≡ t
+        → (if t then At (placeAt 0 z (x - z)) else later (place hs (z - x))) ≡ (if t then At (placeAt 0 z (x - z)) else later (place ks (z - x)))
     by go-on true e = refl
     by go-on false e = ap later (go-on (ltb-false z x e))
+
+front : (hs ks : List ℕ) → Along (hs ++ ks) hs
+front [] ks = right
+front (x ∷ hs) ks = both (front hs ks)
+
+pub place-front : (hs ks : List ℕ) (z : ℕ) → z < sum hs → place (hs ++ ks) z ≡ place hs z
+place-front hs ks z h = along-place (front hs ks) z (omega (arith, sum-append hs ks)) h
 
 -- past a whole row
 pub place-next : (x : ℕ) (hs : List ℕ) (z : ℕ) → place (x ∷ hs) (z + x) ≡ later (place hs z)

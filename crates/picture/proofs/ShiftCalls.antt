@@ -1,10 +1,10 @@
 -- What an accepted shift call has read, and what it gives: shift 0, or fewer lines than the row that leaves or enters is high.
-use mathlib.Core.Path.{_≡_, refl, sym, ap, _∙_}
+use mathlib.Core.Path.{_≡_, refl, sym, _∙_}
 use mathlib.Core.Bool.{Bool, true, false}
 use mathlib.Core.List.{List}
-use Prim.Native.Nat.{ℕ, zero, suc, _+_, _-_, _≤_, _<_}
+use Prim.Native.Nat.{ℕ, _+_, _≤_, _<_}
 use native.Mathlib.Omega.{arith}
-use lib.IntN.{ℤ, pos, negsuc, negℤ, natAbs}
+use lib.IntN.{pos, natAbs}
 use lib.Dec.{leb}
 use borrow.Author.Tests.{leb-true, leb-false}
 use Rattle.memory.specs.Word.{if_then_else_}
@@ -19,8 +19,7 @@ use Rattle.scroll.specs.declared.Rate.{Rate}
 use Rattle.scroll.specs.declared.Offset.{Offset}
 use Rattle.scroll.specs.declared.Scroll.{Scroll}
 use Rattle.scroll.specs.declared.FrameShift.{FrameShift}
-use Rattle.scroll.specs.declared.ShiftAnswer.{ShiftAnswer}
-use Rattle.scroll.specs.declared.ShiftAnswer.the-variants.{Accepted, Refused}
+use Rattle.scroll.specs.declared.ShiftAnswer.the-variants.{Accepted}
 use Rattle.scroll.specs.Rate.{rate}
 use Rattle.scroll.specs.Scroll.{signed, inRange, fromLast, moved, shifted, still, reached, edgeLines, shiftBy, shiftFrom, shift, shiftAnswered, shiftCall}
 use Rattle.scroll.proofs.ShiftBound.{lines-back, edge-reads}

@@ -2,7 +2,7 @@
 use Prim.Native.Nat.{ℕ, _+_, _≤_, _<_}
 use mathlib.Core.Path.{_≡_}
 use mathlib.Core.List.{List, [], _∷_}
-use mathlib.Core.Option.{Option, none}
+use mathlib.Core.Option.{none}
 use lib.IntN.{ℤ}
 use lib.ListN.{getD}
 use Rattle.settings.specs.declared.PointerWords.{PointerWords}
@@ -10,7 +10,7 @@ use Rattle.settings.specs.declared.Settings.{Settings}
 use Rattle.settings.specs.Timing.{linesForRows}
 use Rattle.frame.specs.Frame.{FrameRow, frame}
 use Rattle.insertion.specs.Insertion.{linesOf}
-use Rattle.picture.specs.Picture.{PictureRow, Picture, picture, frameRows, heightsOf}
+use Rattle.picture.specs.Picture.{PictureRow, picture, frameRows, heightsOf}
 
 -- document 01: "Memory is a lent slice of 16-bit words"
 abbrev pub WordsOf : List ℕ → Type 0
