@@ -73,7 +73,7 @@ pub rows-are-tall : RowsAreTall
 unfolding picture
 rows-are-tall shift soft latch σ m w = (
   frame-tall σ m w latch,
-  if-cases Tall (ltZ (pos 0) shift) (λ _. below-tall σ m w (natAbs shift) (frame latch σ m)) (λ _. tt),
+  if-cases Tall (ltZ (pos 0) shift) (λ _. below-tall σ m w _ _) (λ _. tt),
   if-cases Tall (isDown shift) (λ _. above-tall _ m w latch) (λ _. tt),
 )
 
