@@ -20,7 +20,7 @@ use Rattle.panel.specs.declared.Background.{Background}
 use Rattle.panel.specs.declared.Background.the-variants.{Nothing}
 use Rattle.panel.specs.Line.{place, rowAt, aboveAt, isDown}
 use Rattle.picture.specs.Picture.{PictureRow, Picture, frameRows, belowOf, onward, belowRows, picture, heightAbove, heightsOf, lineOn}
-use Rattle.picture.specs.EveryLine.{Everywhere, refusalBelow, EveryLine, firstOf, withOneBelow, lastOf, OneIsEnough}
+use Rattle.picture.specs.EveryLine.{Everywhere, refusalBelow, EveryLine, onlyFirst, withOneBelow, lastOf, OneIsEnough}
 use Rattle.picture.proofs.Heights.{refuses-none, rest-fills, rows-fill}
 use Rattle.picture.proofs.Places.{sum, sum-append, row-nowhere, place-within, place-past, fills-sum, fills-last, line-up, line-above, line-down}
 
@@ -77,7 +77,7 @@ every-line (negsuc n) soft latch σ m w ok below above y h =
     down-line (picture (negsuc n) soft latch σ m) y (omega arith) refl (above refl)
 
 -- ---- one row below ----
-one-sum : (rs : List PictureRow) → sum (heightsOf (firstOf rs)) ≡ heightAbove rs
+one-sum : (rs : List PictureRow) → sum (heightsOf (onlyFirst rs)) ≡ heightAbove rs
 one-sum [] = refl
 one-sum (r ∷ rs) = omega arith
 

@@ -40,13 +40,13 @@ use Rattle.picture.proofs.Places.{sum, line-up}
 use Rattle.picture.proofs.ShiftCalls.{Gives, off, on, call-gives, Reaches, ended, moving, reaches}
 
 -- the height of a list's first row, read from its top
-pub data FirstOf (linear : Bool) (top : PointerWords) (m : List ℕ) (h : ℕ) : Type 0 where
-  firstOf : {main : MainBlock} {i k : ℕ} → run m (topBlock linear top) ≡ given i main → run m (firstLines linear main) ≡ given k h
-      → FirstOf linear top m h
+pub data TopRow (linear : Bool) (top : PointerWords) (m : List ℕ) (h : ℕ) : Type 0 where
+  topRow : {main : MainBlock} {i k : ℕ} → run m (topBlock linear top) ≡ given i main → run m (firstLines linear main) ≡ given k h
+      → TopRow linear top m h
 
 module _ (σ : Settings) (m : List ℕ) (w : Words m) where
   by-rows : {s : State} {rs : List FrameRow} {o : Option State} {r : PictureRow} → Started σ m s → Follows σ m s rs o
-      → first (pictureRows σ m s rs) ≡ some r → FirstOf (σ .linear) (σ .top) m (r .height)
+      → first (pictureRows σ m s rs) ≡ some r → TopRow (σ .linear) (σ .top) m (r .height)
   unfolding pictureRows pictureRow firstLines firstFields
   by-rows st stops e = refuses-none (sym e)
   by-rows {r} st (draws {s} {n} {r = drawn} l e k) h =
@@ -54,21 +54,21 @@ module _ (σ : Settings) (m : List ℕ) (w : Words m) where
       let read = ap (λ (f : Fields). run m (backgroundBlock (σ .linear) (f .next) (f .format))) (sym (st .leads)) ∙ g .read in
       let same : pictureRow σ m s (drawnRow σ s n drawn) ≡ r = cc in
       let height : g .ground .format .lines ≡ r .height = sym (height-is w g) ∙ ap (λ (r : PictureRow). r .height) same in
-      firstOf (st .read) (bind-given 0 m (backgroundBlock (σ .linear) _ _) _ read ∙ run-done (g .words) m _ ∙ ap (given (g .words)) height)
+      topRow (st .read) (bind-given 0 m (backgroundBlock (σ .linear) _ _) _ read ∙ run-done (g .words) m _ ∙ ap (given (g .words)) height)
 
-  pub frame-first : (latch : ℕ) {r : PictureRow} → first (frameRows latch σ m) ≡ some r → FirstOf (σ .linear) (σ .top) m (r .height)
+  pub frame-first : (latch : ℕ) {r : PictureRow} → first (frameRows latch σ m) ≡ some r → TopRow (σ .linear) (σ .top) m (r .height)
   unfolding frameRows
   frame-first latch {r} h = by (opening latch σ m)
     where
-      by : Opening latch σ m → FirstOf (σ .linear) (σ .top) m (r .height)
+      by : Opening latch σ m → TopRow (σ .linear) (σ .top) m (r .height)
       by (opened {n} {s} e st) = by-rows st (rest-following σ m (record { state = s; words = n })) (rw e at h)
       by (closed e) = refuses-none (sym (rw e at h))
 
-  pub above-first : (latch : ℕ) {r : PictureRow} → first (aboveRow latch σ m) ≡ some r → FirstOf (σ .linear) (σ .top) m (r .height)
+  pub above-first : (latch : ℕ) {r : PictureRow} → first (aboveRow latch σ m) ≡ some r → TopRow (σ .linear) (σ .top) m (r .height)
   unfolding aboveRow
   above-first latch {r} h = by (opening latch σ m)
     where
-      by : Opening latch σ m → FirstOf (σ .linear) (σ .top) m (r .height)
+      by : Opening latch σ m → TopRow (σ .linear) (σ .top) m (r .height)
       by (opened {n} {s} e st) = by-rows st (following σ m 1 (record { state = s; words = n })) (rw e at h)
       by (closed e) = refuses-none (sym (rw e at h))
 
@@ -81,19 +81,19 @@ first-tall (x ∷ rs) {r} t e = let same : x ≡ r = cc in rw (← same) (t .0)
 -- which list's first row the lines are that the shift is below: the hard one's going up, the soft one's going down
 pub data Below (linear : Bool) (hard soft : PointerWords) (m : List ℕ) (s : FrameShift) : Type 0 where
   stands : natAbs (s .scroll .shift) ≡ 0 → Below linear hard soft m s
-  rises : {n : ℕ} → s .top ≡ hard → FirstOf linear hard m n → natAbs (s .scroll .shift) < n → isDown (s .scroll .shift) ≡ false → Below linear hard soft m s
-  falls : {n : ℕ} → FirstOf linear soft m n → natAbs (s .scroll .shift) < n → (isDown (s .scroll .shift) ≡ false → natAbs (s .scroll .shift) ≡ 0)
+  rises : {n : ℕ} → s .top ≡ hard → TopRow linear hard m n → natAbs (s .scroll .shift) < n → isDown (s .scroll .shift) ≡ false → Below linear hard soft m s
+  falls : {n : ℕ} → TopRow linear soft m n → natAbs (s .scroll .shift) < n → (isDown (s .scroll .shift) ≡ false → natAbs (s .scroll .shift) ≡ 0)
       → Below linear hard soft m s
 
 module _ (σ : Settings) (m : List ℕ) (soft : PointerWords) where
   edge-first : (hard : MainBlock) {i k n : ℕ} → run m (topBlock (σ .linear) (σ .top)) ≡ given i hard → run m (edgeLines (σ .linear) soft hard) ≡ given k n
       → (g : Offset) → g .lines < n → (up : Bool) → upward hard ≡ up → Below (σ .linear) (σ .top) soft m (shifted up g (σ .top))
   unfolding edgeLines
-  edge-first hard read edge g few true up = rises refl (firstOf read (rw up at edge)) few (le-ltb (g .lines) 0 zero-le)
+  edge-first hard read edge g few true up = rises refl (topRow read (rw up at edge)) few (le-ltb (g .lines) 0 zero-le)
   edge-first hard {k} {n} read edge g few false up =
       let down : run m (topBlock (σ .linear) soft >>= firstLines (σ .linear)) ≡ given k n = rw up at edge in
       came-to 0 m (topBlock (σ .linear) soft) (firstLines (σ .linear)) down λ i main top lines.
-      falls (firstOf top (from-start i m (firstLines (σ .linear) main) lines .1)) (rw (lines-back false (g .lines)) few) (none (g .lines))
+      falls (topRow top (from-start i m (firstLines (σ .linear) main) lines .1)) (rw (lines-back false (g .lines)) few) (none (g .lines))
     where
       none : (n : ℕ) → isDown (signed false n) ≡ false → natAbs (signed false n) ≡ 0
       none zero h = refl
@@ -111,8 +111,8 @@ module _ (σ : Settings) (m : List ℕ) (soft : PointerWords) where
       by (off {hard} read h same) = rw (← same) (stands (lines-back (upward hard) 0))
       by (on {hard} {n} read h edge same) = rw (← same) (by-reaching hard read edge (reaches (upward hard) n (σ .top) soft _))
 
-pub same-first : {linear : Bool} {top : PointerWords} {m : List ℕ} {a b : ℕ} → FirstOf linear top m a → FirstOf linear top m b → a ≡ b
-same-first {linear} {m} {a} {b} (firstOf {main} top lines) (firstOf {main = main′} {k} top′ lines′) =
+pub same-first : {linear : Bool} {top : PointerWords} {m : List ℕ} {a b : ℕ} → TopRow linear top m a → TopRow linear top m b → a ≡ b
+same-first {linear} {m} {a} {b} (topRow {main} top lines) (topRow {main = main′} {k} top′ lines′) =
     let one : main′ ≡ main = cc in
     let both : run m (firstLines linear main) ≡ given k b = rw one at lines′ in
     cc
@@ -157,7 +157,7 @@ below-first-row σ m w soft last s e latch r =
 
         by : Below (σ .linear) (σ .top) soft m s → natAbs shift < r .height
         by (stands z) = omega (arith, tall)
-        by (rises top f few k) = let own : FirstOf (σ .linear) (σ .top) m (r .height) = rw top at (frame-first τ m w latch h) in omega (arith, same-first f own)
+        by (rises top f few k) = let own : TopRow (σ .linear) (σ .top) m (r .height) = rw top at (frame-first τ m w latch h) in omega (arith, same-first f own)
         by (falls f few z) = omega (arith, z up, tall)
 
     below-it : isDown shift ≡ true → first (aboveRow latch (withTop τ soft) m) ≡ some r → natAbs shift < r .height

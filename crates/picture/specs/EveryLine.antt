@@ -37,12 +37,12 @@ EveryLine = (shift : ℤ) (soft : PointerWords) (latch : ℕ) (σ : Settings) (m
     → Everywhere (linesForRows σ) p
 
 -- the same picture with one of the rows below
-abbrev pub firstOf : List PictureRow → List PictureRow
-firstOf [] = []
-firstOf (r ∷ rs) = r ∷ []
+abbrev pub onlyFirst : List PictureRow → List PictureRow
+onlyFirst [] = []
+onlyFirst (r ∷ rs) = r ∷ []
 
 abbrev pub withOneBelow : Picture → Picture
-withOneBelow p = record { shift = p .shift; above = p .above; rows = p .rows; below = firstOf (p .below); refusal = p .refusal }
+withOneBelow p = record { shift = p .shift; above = p .above; rows = p .rows; below = onlyFirst (p .below); refusal = p .refusal }
 
 -- the last of some numbers, n where there is none
 unfoldable pub lastOf : ℕ → List ℕ → ℕ
