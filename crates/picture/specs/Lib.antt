@@ -1,1 +1,5 @@
 pub mod Picture
+pub mod Heights
+pub mod EveryLine
+pub mod AfterShift
+pub mod Ending

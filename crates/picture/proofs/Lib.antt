@@ -1,0 +1,9 @@
+pub mod Grounds
+pub mod Following
+pub mod Heights
+pub mod Places
+pub mod EveryLine
+pub mod ShiftCalls
+pub mod FirstRow
+pub mod BlockChains
+pub mod Ending
