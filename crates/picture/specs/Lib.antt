@@ -1,1 +1,4 @@
 pub mod Picture
+pub mod Still
+pub mod Windows
+pub mod Beside

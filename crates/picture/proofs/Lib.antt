@@ -1,0 +1,6 @@
+pub mod Made
+pub mod Shown
+pub mod Still
+pub mod Windows
+pub mod RowLines
+pub mod Beside
