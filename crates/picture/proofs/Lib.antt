@@ -7,3 +7,9 @@ pub mod ShiftCalls
 pub mod FirstRow
 pub mod BlockChains
 pub mod Ending
+pub mod Made
+pub mod Shown
+pub mod Still
+pub mod Windows
+pub mod RowLines
+pub mod Beside

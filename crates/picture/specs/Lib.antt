@@ -3,3 +3,6 @@ pub mod Heights
 pub mod EveryLine
 pub mod AfterShift
 pub mod Ending
+pub mod Still
+pub mod Windows
+pub mod Beside
