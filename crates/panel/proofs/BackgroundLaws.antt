@@ -38,7 +38,7 @@ next-row : (hs : List ℕ) (q : Placed) → rowAt (next hs q) ≡ nextBackground
 next-row hs Nowhere = refl
 next-row hs (At p) = refl
 
-row-of : (q : Placed) (p : Place) → rowAt q ≡ Row p → q ≡ At p
+pub row-of : (q : Placed) (p : Place) → rowAt q ≡ Row p → q ≡ At p
 row-of Nowhere p h = let z : _≡_ {A = ℕ} 0 1 = cc in absurd (omega arith)
 row-of (At q) p h = cc
 
@@ -46,17 +46,17 @@ row-not-above : (q : Placed) (p : Place) → rowAt q ≡ Above p → ⊥
 row-not-above Nowhere p h = let z : _≡_ {A = ℕ} 0 1 = cc in omega arith
 row-not-above (At q) p h = let z : _≡_ {A = ℕ} 0 1 = cc in omega arith
 
-none-of : (q : Placed) → rowAt q ≡ Nothing → q ≡ Nowhere
+pub none-of : (q : Placed) → rowAt q ≡ Nothing → q ≡ Nowhere
 none-of Nowhere h = refl
 none-of (At q) h = let z : _≡_ {A = ℕ} 0 1 = cc in absurd (omega arith)
 
 -- the row above, of height h, on line y of the first d
 module _ (h d y : ℕ) (first : y < d) where
-  above-there : d ≤ h + y → aboveAt h d y ≡ Above (placeAt 0 (h + y - d) (d - y))
+  pub above-there : d ≤ h + y → aboveAt h d y ≡ Above (placeAt 0 (h + y - d) (d - y))
   unfolding aboveAt
   above-there t = rw (le-leb d (h + y) t)
 
-  above-none : h + y < d → aboveAt h d y ≡ Nothing
+  pub above-none : h + y < d → aboveAt h d y ≡ Nothing
   unfolding aboveAt
   above-none t = rw (lt-leb d (h + y) t)
 
@@ -67,25 +67,34 @@ module _ (h d y : ℕ) (first : y < d) where
       by true t = leb-true d (h + y) t
       by false t = absurd (some (above-none (leb-false d (h + y) t)))
 
+  pub above-low : aboveAt h d y ≡ Nothing → h + y < d
+  above-low none = by (leb d (h + y)) refl
+    where
+      by : (b : Bool) → leb d (h + y) ≡ b → h + y < d
+      by true t =
+          let there = above-there (leb-true d (h + y) t) in
+          let z : _≡_ {A = ℕ} 0 1 = cc in absurd (omega arith)
+      by false t = leb-false d (h + y) t
+
   not-row : (p : Place) → aboveAt h d y ≡ Row p → ⊥
   unfolding aboveAt
   not-row p = if-cases (λ (b : Background). b ≡ Row p → ⊥) (leb d (h + y)) (λ t e. let z : _≡_ {A = ℕ} 0 1 = cc in omega arith) (λ t e. let z : _≡_ {A = ℕ} 0 1 = cc in omega arith)
 
 -- what glides down by d lines, and up
 module _ (d above : ℕ) (heights : List ℕ) (rows : ℕ) where
-  abbrev frame : List ℕ
+  abbrev pub frame : List ℕ
   frame = take rows heights
 
-  abbrev down : ℕ → Background
+  abbrev pub down : ℕ → Background
   down y = if ltb y d then aboveAt above d y else rowAt (place frame (y - d))
 
-  abbrev up : ℕ → Background
+  abbrev pub up : ℕ → Background
   up y = rowAt (place heights (y + d))
 
-  down-first : (y : ℕ) → y < d → down y ≡ aboveAt above d y
+  pub down-first : (y : ℕ) → y < d → down y ≡ aboveAt above d y
   down-first y s = rw (lt-ltb y d s)
 
-  down-later : (y : ℕ) → d ≤ y → down y ≡ rowAt (place frame (y - d))
+  pub down-later : (y : ℕ) → d ≤ y → down y ≡ rowAt (place frame (y - d))
   down-later y s = rw (le-ltb y d s)
 
   module _ (tall : Tall heights) where
@@ -119,7 +128,7 @@ module _ (d above : ℕ) (heights : List ℕ) (rows : ℕ) where
             rw (down-later y s, down-later (suc y) (omega arith), there, place-follows frame (tall-first rows heights tall) (y - d)) (next-row frame (place frame (y - d)))
 
     -- where a row stands still on a line, no line before it is past the frame's rows
-    frame-there : (y z : ℕ) (s : Place) → z ≤ y → place frame y ≡ At s → place frame z ≡ Nowhere → ⊥
+    pub frame-there : (y z : ℕ) (s : Place) → z ≤ y → place frame y ≡ At s → place frame z ≡ Nowhere → ⊥
     frame-there y z s before e none =
         let past = place-none frame (tall-first rows heights tall) z (y - z) none in
         let same : z + (y - z) ≡ y = omega arith in
@@ -140,14 +149,14 @@ module _ (d above : ℕ) (heights : List ℕ) (rows : ℕ) where
             let s′ = ltb-false (suc y) d t in
             frame-there (suc y) (suc y - d) s (omega arith) e (none-of (place frame (suc y - d)) (sym (down-later (suc y) s′) ∙ none))
 
-  down-row : (y : ℕ) (p : Place) → down y ≡ Row p → (d ≤ y) × (place frame (y - d) ≡ At p)
+  pub down-row : (y : ℕ) (p : Place) → down y ≡ Row p → (d ≤ y) × (place frame (y - d) ≡ At p)
   down-row y p e = by (ltb y d) refl
     where
       by : (b : Bool) → ltb y d ≡ b → (d ≤ y) × (place frame (y - d) ≡ At p)
       by true t = let s = ltb-true y d t in absurd (not-row above d y s p (sym (down-first y s) ∙ e))
       by false t = let s = ltb-false y d t in (s, row-of (place frame (y - d)) p (sym (down-later y s) ∙ e))
 
-  down-above : (y : ℕ) (p : Place) → down y ≡ Above p → (y < d) × (d ≤ above + y) × (p ≡ placeAt 0 (above + y - d) (d - y))
+  pub down-above : (y : ℕ) (p : Place) → down y ≡ Above p → (y < d) × (d ≤ above + y) × (p ≡ placeAt 0 (above + y - d) (d - y))
   down-above y p e = by (ltb y d) refl
     where
       by : (b : Bool) → ltb y d ≡ b → (y < d) × (d ≤ above + y) × (p ≡ placeAt 0 (above + y - d) (d - y))
@@ -161,11 +170,11 @@ module _ (d above : ℕ) (heights : List ℕ) (rows : ℕ) where
 
 -- the two ways of a shift
 module _ (shift : ℤ) (above : ℕ) (heights : List ℕ) (rows : ℕ) where
-  on-down : isDown shift ≡ true → (y : ℕ) → background shift above heights rows y ≡ down (natAbs shift) above heights rows y
+  pub on-down : isDown shift ≡ true → (y : ℕ) → background shift above heights rows y ≡ down (natAbs shift) above heights rows y
   unfolding background
   on-down t y = rw t
 
-  on-up : isDown shift ≡ false → (y : ℕ) → background shift above heights rows y ≡ up (natAbs shift) above heights rows y
+  pub on-up : isDown shift ≡ false → (y : ℕ) → background shift above heights rows y ≡ up (natAbs shift) above heights rows y
   unfolding background
   on-up t y = rw t
 

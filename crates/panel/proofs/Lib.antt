@@ -3,3 +3,4 @@ pub mod CellLaws
 mod SignLaws
 pub mod FollowLaws
 pub mod BackgroundLaws
+pub mod StretchLaws
