@@ -177,7 +177,7 @@ module _ (shift : ℤ) (soft : PointerWords) (latch : ℕ) (σ : Settings) (m : 
   unfolding picture
   rows-clear (ofFrame i e) = made-clear σ m w (each-first i (frame-made σ m w latch) e)
   rows-clear (ofBelow i e) = made-clear σ m w (each-first i (each-if (ltZ (pos 0) shift) (below-made σ m w latch (natAbs shift))) e)
-  rows-clear (ofAbove e) = made-clear (withTop σ soft) m w (each-first 0 (each-if (isDown shift) (above-made (withTop σ soft) m w latch)) e)
+  rows-clear (ofAbove e) = made-clear _ m w (each-first 0 (each-if (isDown shift) (above-made _ m w _)) e)
 
   gliding-clear : {x c : ℕ} → Gliding shifted x c → NoWindow c
   gliding-clear no-row = nothing-clear
