@@ -9,6 +9,7 @@ pub mod BlockChains
 pub mod Ending
 pub mod Made
 pub mod Shown
+pub mod Clear
 pub mod Still
 pub mod Windows
 pub mod RowLines
