@@ -1,0 +1,3 @@
+pub mod FrameText
+pub mod GlideText
+pub mod Example
