@@ -1,26 +1,24 @@
 -- Rows of 1 to 32 lines: height by height, and what follows of a line in them, that its numbers fit 32 bits.
-use mathlib.Core.Path.{_≡_, refl, ap, sym, _∙_}
-use mathlib.Core.Bool.{Bool, true, false, _&&_}
+use mathlib.Core.Path.{_≡_, refl}
+use mathlib.Core.Bool.{true, _&&_}
 use mathlib.Core.List.{List, [], _∷_}
-use Prim.Native.Nat.{ℕ, zero, suc, _+_, _-_, _≤_, _<_, min}
+use Prim.Native.Nat.{ℕ, zero, suc, _+_, _-_, _≤_, _<_}
 use native.Mathlib.Omega.{arith}
 use native.Mathlib.Numerals.{add-one}
 use lib.IntN.{ℤ, natAbs}
 use lib.ListN.{length, take, drop, getD, length-take}
 use lib.Seq.{drop-cons}
 use lib.Dec.{leb, ltb}
-use borrow.Author.Tests.{leb-true, ltb-true, ltb-false}
-use Rattle.memory.specs.Word.{if_then_else_}
+use borrow.Author.Tests.{leb-true, ltb-true}
 use Rattle.memory.proofs.ReadBounds.{both, if-cases}
 use Rattle.panel.specs.declared.Place.{Place}
 use Rattle.panel.specs.declared.Placed.{Placed}
 use Rattle.panel.specs.declared.Placed.the-variants.{Nowhere, At}
 use Rattle.panel.specs.declared.Background.{Background}
 use Rattle.panel.specs.declared.Background.the-variants.{Nothing, Row, Above}
-use Rattle.panel.specs.declared.Line.{Line}
-use Rattle.panel.specs.Line.{placeAt, later, place, rowAt, aboveAt, isDown, background, still, backgroundLines, lineAt, line}
+use Rattle.panel.specs.Line.{later, place, rowAt, aboveAt, isDown, background, still, backgroundLines, lineAt, line}
 use Rattle.line_numbers.specs.LineNumbers.{isHeight, areHeights, lineAsked}
-use Rattle.line_numbers.specs.Narrow.{Narrow, NarrowPlaced, NarrowBackground, NarrowLine}
+use Rattle.line_numbers.specs.Narrow.{NarrowPlaced, NarrowBackground, NarrowLine}
 
 pub heights-at : (hs : List ℕ) (i : ℕ) → i < length hs → areHeights (drop i hs) ≡ (isHeight (getD hs i 0) && areHeights (drop (i + 1) hs))
 unfolding areHeights

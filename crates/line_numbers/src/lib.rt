@@ -4,7 +4,6 @@ use panel::Background;
 use panel::Line;
 use panel::Placed;
 ghost use mathlib.Core.Path.{_≡_};
-ghost use lib.ListN.{length};
 ghost use Rattle.line_numbers.specs.LineNumbers.{isHeight, areHeights, lineAsked, spotAt, backgroundSpot, stillSpot, lineNumbers};
 ghost use Rattle.line_numbers.specs.Narrow.{NarrowBackground, NarrowPlaced, ToWrite};
 

@@ -1,11 +1,11 @@
 -- What glides from line to line: up, the place of rows one after the other; down, the row above's last lines, and then the frame's rows.
 use mathlib.Core.Path.{_≡_, refl, ap, sym, _∙_}
 use mathlib.Core.Bool.{Bool, true, false}
-use mathlib.Core.List.{List, [], _∷_}
-use Prim.Native.Nat.{ℕ, zero, suc, _+_, _-_, _≤_, _<_, min}
+use mathlib.Core.List.{List}
+use Prim.Native.Nat.{ℕ, suc, _+_, _-_, _≤_, _<_}
 use native.Mathlib.Omega.{arith}
-use lib.IntN.{ℤ, pos, natAbs}
-use lib.ListN.{length, take, getD, length-take}
+use lib.IntN.{ℤ, natAbs}
+use lib.ListN.{take, length-take}
 use lib.Seq.{getD-take}
 use lib.Dec.{ltb, leb}
 use borrow.Author.Tests.{ltb-true, ltb-false, lt-ltb, le-ltb, leb-true, leb-false, le-leb, lt-leb}
@@ -16,9 +16,9 @@ use Rattle.panel.specs.declared.Placed.{Placed}
 use Rattle.panel.specs.declared.Placed.the-variants.{Nowhere, At}
 use Rattle.panel.specs.declared.Background.{Background}
 use Rattle.panel.specs.declared.Background.the-variants.{Nothing, Row, Above}
-use Rattle.panel.specs.Line.{placeAt, later, place, rowAt, aboveAt, isDown, background, still, darkLines, backgroundLines, lineAt, line}
-use Rattle.panel.specs.Lines.{Tall, rowFrom, next, Within, nextBackground, glidingRows, Follows, Unshifted, on, backgroundOn, which, Stretch, Stretches}
-use Rattle.panel.proofs.FollowLaws.{first-place, place-follows, place-within, place-on, place-after, place-first, place-none, row-index}
+use Rattle.panel.specs.Line.{placeAt, place, rowAt, aboveAt, isDown, background, still, line}
+use Rattle.panel.specs.Lines.{Tall, next, nextBackground, Follows, Unshifted, on}
+use Rattle.panel.proofs.FollowLaws.{first-place, place-follows, place-within, place-first, place-none}
 
 pub unshifted : Unshifted
 unfolding background

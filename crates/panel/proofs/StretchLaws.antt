@@ -2,22 +2,21 @@
 use mathlib.Core.Path.{_≡_, refl, ap, sym, _∙_}
 use mathlib.Core.Bool.{Bool, true, false}
 use mathlib.Core.List.{List, [], _∷_}
-use Prim.Native.Nat.{ℕ, zero, suc, _+_, _-_, _≤_, _<_, min}
+use Prim.Native.Nat.{ℕ, suc, _+_, _-_, _≤_, _<_, min}
 use native.Mathlib.Omega.{arith}
 use lib.IntN.{ℤ, natAbs}
-use lib.ListN.{length, take, getD}
+use lib.ListN.{length, take}
 use lib.Dec.{ltb}
 use borrow.Author.Tests.{ltb-true, ltb-false}
-use Rattle.memory.specs.Word.{if_then_else_}
 use Rattle.memory.proofs.ReadBounds.{if-cases}
 use Rattle.panel.specs.declared.Place.{Place}
 use Rattle.panel.specs.declared.Placed.{Placed}
 use Rattle.panel.specs.declared.Placed.the-variants.{Nowhere, At}
 use Rattle.panel.specs.declared.Background.{Background}
 use Rattle.panel.specs.declared.Background.the-variants.{Nothing, Row, Above}
-use Rattle.panel.specs.Line.{placeAt, place, rowAt, isDown, background, still, backgroundLines, lineAt, line}
+use Rattle.panel.specs.Line.{place, rowAt, isDown, background, still, backgroundLines, line}
 use Rattle.panel.specs.Lines.{Tall, rowFrom, on, backgroundOn, which, Stretch, Stretches}
-use Rattle.panel.proofs.FollowLaws.{first-place, place-within, place-on, place-after, place-none, row-index}
+use Rattle.panel.proofs.FollowLaws.{place-within, place-on, place-after, place-none, row-index}
 use Rattle.panel.proofs.BackgroundLaws.{tall-first, row-of, none-of, above-there, above-none, above-low, down-first, down-later, frame-there, down-row, down-above, on-down, on-up}
 
 -- a row that follows another is not it

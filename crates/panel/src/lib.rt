@@ -5,7 +5,7 @@ ghost use lib.IntN.{natAbs};
 ghost use lib.ListN.{take};
 ghost use Rattle.panel.specs.Line.{place, rowAt, aboveAt, background, backgroundLines, line};
 ghost use Rattle.panel.specs.Answers.{shownIn};
-ghost use Rattle.panel.specs.Shown.{layer, inColumns, cellIn, glidingCell, backgroundCell, cursorBit, withCursorOf, sized, shownCell, showCalled, showCall};
+ghost use Rattle.panel.specs.Shown.{layer, inColumns, cellIn, backgroundCell, cursorBit, withCursorOf, sized, showCalled, showCall};
 
 // A place in rows one after the other: which row, which of its scan lines, and how many of them from there on.
 pub struct Place {

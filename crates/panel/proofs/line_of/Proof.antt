@@ -1,5 +1,5 @@
 -- The place that `place_of` gives is what stands still; where there is one, `background_of` and `background_lines` give the rest.
-use mathlib.Core.Path.{_≡_, sym, _∙_}
+use mathlib.Core.Path.{_≡_}
 use borrow.Author.Needs.{needs}
 use mir.Syntax.{w32}
 use mir.Val.{toZ, ofZ}

@@ -1,6 +1,6 @@
 -- The loop's invariant: the cells before column x are those of the line. Each test of the code is one of `showCall`'s.
 use mathlib.Core.Path.{_≡_, refl, sym, ap, _∙_}
-use mathlib.Core.Bool.{_&&_}
+use mathlib.Core.Bool.{Bool, _&&_}
 use mathlib.Core.List.{List}
 use Prim.Native.Nat.{ℕ, _-_, _≤_}
 use native.Mathlib.Omega.{arith}
@@ -9,7 +9,7 @@ use borrow.Author.Tests.{not-true, not-false, eq-eqb, ne-eqb}
 use lib.ListN.{length, take, length-set}
 use lib.Seq.{take-all}
 use Rattle.panel.specs.declared.Columns.{Columns}
-use Rattle.panel.specs.Shown.{layer, sized, cellsFrom, shown, showCalled, showCall}
+use Rattle.panel.specs.Shown.{layer, sized, cellsFrom, shown, showCall}
 use Rattle.panel.specs.Answers.{shownIn}
 use Rattle.panel.proofs.CellLaws.{cells-next, shown-columns}
 use Rattle.panel.proofs.show.Statement.{statement}
@@ -26,19 +26,26 @@ Inv-loop still still-columns gliding gliding-columns behind cells₀ x₀ cells 
 abbrev μ-loop : tie.MeasureT-loop
 μ-loop still still-columns gliding gliding-columns behind cells₀ x₀ cells x = length cells₀ - x
 
+-- the three tests of counts, and what they gave
+abbrev start : tie.After-is-sized3 Inv-loop μ-loop → tie.Start Inv-loop μ-loop
+start c = c .before .before .before .before .before .before .before
+
+abbrev given : tie.After-is-sized3 Inv-loop μ-loop → Bool
+given c = c .before .before .is-sized .result && c .before .is-sized2 .result && c .is-sized3 .result
+
+counts : (c : tie.After-is-sized3 Inv-loop μ-loop)
+    → (sized (start c .args .still .now) && sized (start c .args .gliding .now) && sized (start c .args .behind .now)) ≡ given c
+counts c = λ i. sym (c .before .before .is-sized .ensures) i && sym (c .before .is-sized2 .ensures) i && sym (c .is-sized3 .ensures) i
+
 returns : tie.Need-returns Inv-loop μ-loop
 unfolding showCall
-returns c =
-    let third = c .before in
-    let second = third .before in
-    rw (← second .before .is-sized .ensures, ← second .is-sized2 .ensures, ← third .is-sized3 .ensures, not-true (second .before .is-sized .result && second .is-sized2 .result && third .is-sized3 .result) (c .if1 .taken))
+returns c = rw (counts (c .before), not-true (given (c .before)) (c .if1 .taken))
 
 returns-2 : tie.Need-returns-2 Inv-loop μ-loop
 unfolding showCall
 returns-2 c =
-    let third = c .before .before in
-    let second = third .before in
-    rw (← second .before .is-sized .ensures, ← second .is-sized2 .ensures, ← third .is-sized3 .ensures, not-false (second .before .is-sized .result && second .is-sized2 .result && third .is-sized3 .result) (c .before .if1 .left), ne-eqb _ _ (c .if2 .taken))
+    let tested = c .before .before in
+    rw (counts tested, not-false (given tested) (c .before .if1 .left), ne-eqb _ _ (c .if2 .taken))
 
 loop-holds : tie.Need-loop-holds Inv-loop μ-loop
 unfolding cellsFrom
@@ -57,15 +64,15 @@ unfolding showCall
 returns-3 c =
     let l = c .before .loop in
     let counted = c .before .before in
-    let third = counted .before .before in
-    let second = third .before in
-    let a = second .before .before .before .before .before .before .args in
+    let tested = counted .before .before in
+    let a = start tested .args in
     let s = layer (a .still .now) (a .still-columns) in
     let b = layer (a .gliding .now) (a .gliding-columns) in
-    let all : l .x ≡ 132 = omega (arith, counted .if2 .left) in
     let cells = columns (a .still .now) (a .still-columns) (a .gliding .now) (a .gliding-columns) (a .behind .now) in
-    let done : l .cells ≡ shown s b (a .behind .now) = sym (take-all (l .x) (l .cells) (omega arith)) ∙ l .inv .2 ∙ ap (λ (k : ℕ). cellsFrom cells k 0) all ∙ sym (shown-columns s b (a .behind .now)) in
-    rw (← second .before .is-sized .ensures, ← second .is-sized2 .ensures, ← third .is-sized3 .ensures, not-false (second .before .is-sized .result && second .is-sized2 .result && third .is-sized3 .result) (counted .before .if1 .left), eq-eqb _ _ (counted .if2 .left), done)
+    let all : l .x ≡ 132 = omega (arith, counted .if2 .left) in
+    let done : l .cells ≡ shown s b (a .behind .now) =
+    sym (take-all (l .x) (l .cells) (omega arith)) ∙ l .inv .2 ∙ ap (λ (k : ℕ). cellsFrom cells k 0) all ∙ sym (shown-columns s b (a .behind .now)) in
+    rw (counts tested, not-false (given tested) (counted .before .if1 .left), eq-eqb _ _ (counted .if2 .left), done)
 
 pub show-spec : {M : Type 1} → statement M
 show-spec =

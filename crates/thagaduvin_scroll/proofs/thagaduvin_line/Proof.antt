@@ -9,7 +9,6 @@ use mir.ValLaws.{toZ-ofZ}
 use Rattle.answers.specs.AfterCall.{answered}
 use Rattle.panel.specs.Line.{line}
 use Rattle.line_numbers.specs.LineNumbers.{lineAsked}
-use Rattle.line_numbers.specs.Narrow.{NarrowLine}
 use Rattle.line_numbers.proofs.HeightLaws.{line-narrow}
 use Rattle.thagaduvin_scroll.specs.PanelCalls.{hostLine}
 use Rattle.thagaduvin_scroll.proofs.thagaduvin_line.Statement.{statement}
