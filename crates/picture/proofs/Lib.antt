@@ -5,3 +5,4 @@ pub mod Still
 pub mod Windows
 pub mod RowLines
 pub mod Beside
+pub mod FewRows
