@@ -186,7 +186,7 @@ abbrev Covers : ℕ → WindowInHand → Overlay → Type 0
 Covers row w none = Unit
 Covers row w (over number first end ws) = (columnsOf row w .first ≡ first) × (columnsOf row w .last + 1 ≡ end)
 
-any : {A : Type 0} (p : Reading A) → Gives (λ _. Unit {0}) p
+pub any : {A : Type 0} (p : Reading A) → Gives (λ _. Unit {0}) p
 any (done a) = dones tt
 any (refuse x) = refuses
 any (ask q f) = asks λ w l. any (f w)

@@ -14,3 +14,4 @@ pub mod Still
 pub mod Windows
 pub mod RowLines
 pub mod Beside
+pub mod FewRows

@@ -1,6 +1,6 @@
 -- The row beside the cut (`besideCall`) is the row of the picture that comes in first: it has the same number, format and cells, and is
 -- refused where no row comes in. Their lines differ: there it is given one line, here the shift.
-use Prim.Native.Nat.{ℕ, suc, _+_, _≤_}
+use Prim.Native.Nat.{ℕ, suc, _+_, _<_, _≤_}
 use mathlib.Core.Path.{_≡_}
 use mathlib.Core.List.{List, [], _∷_}
 use mathlib.Core.Option.{none, some}
@@ -14,7 +14,7 @@ use Rattle.beside.specs.declared.BesideRow.{BesideRow}
 use Rattle.beside.specs.declared.BesideAnswer.{BesideAnswer}
 use Rattle.beside.specs.declared.BesideAnswer.the-variants.{Absent, Drawn, Refused}
 use Rattle.beside.specs.Beside.{BesideCalled, besideCall}
-use Rattle.picture.specs.Picture.{PictureRow, picture}
+use Rattle.picture.specs.Picture.{PictureRow, frameRows, picture, first}
 use Rattle.picture.specs.Still.{WordsFit}
 
 -- one row: number, format and cells
@@ -48,3 +48,9 @@ abbrev pub ComesInBeside : Type 0
 ComesInBeside =
     (soft : PointerWords) (latch : ℕ) (σ : Settings) (m : List ℕ) → WordsFit m → (last : State) (buffer : List ℕ) → length buffer ≡ 132
     → BesideTheCut soft latch σ m last buffer
+
+-- rows + shift <= 4095: so it is for a shift below the height of row 0
+abbrev pub ShiftFits : Type 0
+ShiftFits =
+    (latch : ℕ) (σ : Settings) (m : List ℕ) → WordsFit m → (r : PictureRow) → first (frameRows latch σ m) ≡ some r → (n : ℕ) → n < r .height
+    → length (frame latch σ m .rows) + n ≤ 4095
