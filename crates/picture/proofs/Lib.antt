@@ -15,3 +15,5 @@ pub mod Windows
 pub mod RowLines
 pub mod Beside
 pub mod FewRows
+pub mod PlainRows
+pub mod EndingCells

@@ -6,3 +6,4 @@ pub mod Ending
 pub mod Still
 pub mod Windows
 pub mod Beside
+pub mod EndingCells
