@@ -3,7 +3,7 @@
 use mathlib.Core.Path.{_≡_, refl, ap, sym, _∙_}
 use mathlib.Core.Bool.{true}
 use mathlib.Core.List.{List, [], _++_, append-assoc, append-nil}
-use Prim.Native.Nat.{ℕ, _+_, _<_, _≤_}
+use Prim.Native.Nat.{ℕ, _<_}
 use native.Mathlib.Omega.{arith}
 use lib.ListN.{length, replicate}
 use Rattle.memory.specs.Reading.{Reading}
@@ -19,11 +19,9 @@ use Rattle.layout.specs.Layout.{boundary, edgesFit, segmentsOn}
 use Rattle.layout.proofs.LayoutLaws.{clear, before-total, side-short}
 use Rattle.layout.proofs.OverlayBounds.{Inside}
 use Rattle.codes.specs.declared.CodeSettings.{CodeSettings}
-use Rattle.codes.specs.declared.Pen.{Pen}
 use Rattle.codes.specs.declared.Source.{Source}
 use Rattle.codes.specs.Attribute.{Fill, Background, Window, cell}
 use Rattle.codes.specs.Codes.{Drawing, blank, noList, withList, put}
-use Rattle.codes.proofs.CodeBounds.{At}
 use Rattle.codes.proofs.CodeCells.{Kept, AnyPen, all-replicate, all-append, Makes, Cells, cells-kept, any-pen}
 use Rattle.cells.specs.Cells.{segmentsTo, rowCells}
 use Rattle.cells.proofs.CellBounds.{segments-to-read}

@@ -1,34 +1,29 @@
 -- The row that comes in first has number, format, cells and refusal of the row beside the cut.
-use mathlib.Core.Path.{_≡_, refl, ap, sym, subst, _∙_}
-use mathlib.Core.Bool.{Bool, true, false}
+use mathlib.Core.Path.{_≡_, refl, subst}
 use mathlib.Core.List.{List, []}
 use mathlib.Core.Option.{Option, none, some}
-use Prim.Native.Nat.{ℕ, zero, suc, _+_, _<_, _≤_}
+use Prim.Native.Nat.{ℕ, suc, _+_, _≤_}
 use native.Mathlib.Omega.{arith}
-use lib.IntN.{pos, negsuc}
 use lib.ListN.{length}
-use lib.Dec.{eqb, lit≤}
+use lib.Dec.{eqb}
 use borrow.Author.Tests.{eq-eqb, eqb-true, lt-ltb}
 use Rattle.memory.specs.declared.Refusal.{Refusal}
 use Rattle.memory.specs.Reading.{Outcome, given, refused, run}
 use Rattle.memory.proofs.ReadBounds.{Words, if-cases}
 use Rattle.memory.proofs.Related.{Ends, givens, refuseds, run-rel}
-use Rattle.settings.specs.declared.PointerWords.{PointerWords}
 use Rattle.settings.specs.declared.Settings.{Settings}
 use Rattle.state.specs.declared.Fields.{Fields}
 use Rattle.state.specs.declared.State.{State}
-use Rattle.state.specs.State.{stateOf}
 use Rattle.start.specs.Start.{startFrom, started, startCall}
 use Rattle.row.specs.Row.{Row, row, withCursor, answered, rowCall}
 use Rattle.row.proofs.RowBound.{lines-run-out}
 use Rattle.frame.specs.declared.Progress.{Progress}
-use Rattle.frame.specs.declared.BeginAnswer.the-variants as Begin
 use Rattle.frame.specs.Step.{begun, begin, rowStep, Stepped, step}
 use Rattle.frame.specs.Frame.{Frame, byAnswer, byStep, blank, within, rest, frame}
 use Rattle.frame.proofs.Frames.{frame-count}
 use Rattle.beside.specs.Beside.{told, withTop, rowBelow, afterStart, rowAbove, besideCall}
-use Rattle.picture.specs.Picture.{PictureRow, pictureRow, pictureRows, rowsFrom, onward, belowOf, belowRows, firstRow, aboveRow, picture}
-use Rattle.picture.specs.Beside.{OneRow, FirstOf, IsFirst, BesideTheCut, ComesInBeside}
+use Rattle.picture.specs.Picture.{pictureRow, pictureRows, rowsFrom, onward, belowOf, belowRows, firstRow, aboveRow, picture}
+use Rattle.picture.specs.Beside.{FirstOf, IsFirst, ComesInBeside}
 use Rattle.picture.proofs.RowLines.{RowLike, rows, row-like}
 
 -- a row call on fields f, k words having been read before, against the first step of a frame in progress p: they differ in lines left

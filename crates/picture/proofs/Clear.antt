@@ -11,7 +11,6 @@ use lib.Seq.{getD-append-add}
 use lib.Dec.{eqb, leb, ltb}
 use lib.Bits.{bitOr, or-shr, or-mod, or-zero-r}
 use borrow.Author.Tests.{leb-true, leb-false}
-use Rattle.memory.specs.Word.{if_then_else_}
 use Rattle.memory.specs.Reading.{Reading, done, refuse, ask, check, checkOf, Outcome, given, refused, run}
 use Rattle.memory.proofs.Agree as Agree
 use Rattle.memory.proofs.Agree.{All, also}
@@ -51,7 +50,7 @@ use Rattle.panel.specs.declared.Columns.{Columns}
 use Rattle.panel.specs.Shown.{noColumns, inColumns, nothing, cellIn, withCursorOf}
 use Rattle.picture.specs.Picture.{PictureRow, columnsOf, withoutWindow, acceptedCells, behindIn, pictureRow}
 use Rattle.picture.specs.Windows.{NoWindow}
-use Rattle.picture.proofs.Made.{rowFrom, Made}
+use Rattle.picture.proofs.Made.{Made}
 
 -- ---- cells ----
 

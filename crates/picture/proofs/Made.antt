@@ -5,32 +5,26 @@ use mathlib.Core.List.{List, [], _∷_, _++_}
 use mathlib.Core.Option.{Option, none, some}
 use Prim.Native.Nat.{ℕ, zero, suc, _+_, _<_}
 use native.Mathlib.Omega.{arith}
-use lib.IntN.{ℤ, pos, natAbs}
-use lib.Signed.{ltZ}
-use lib.ListN.{length, drop, length-replicate}
+use lib.ListN.{length, drop}
 use lib.Dec.{eqb}
 use Rattle.memory.specs.Word.{if_then_else_}
 use Rattle.memory.specs.declared.Refusal.{Refusal}
 use Rattle.memory.specs.Reading.{Outcome, given, refused, run}
 use Rattle.memory.proofs.ReadBounds.{Words, reads-given, if-cases}
-use Rattle.settings.specs.declared.PointerWords.{PointerWords}
 use Rattle.settings.specs.declared.Settings.{Settings}
 use Rattle.blocks.specs.declared.FillMode.{FillMode}
 use Rattle.state.specs.declared.State.{State}
 use Rattle.state.specs.State.{stateOf}
 use Rattle.start.specs.Start.{startFrom, started}
 use Rattle.start.proofs.StartBound.{start-reads}
-use Rattle.row.specs.declared.DrawnRow.{DrawnRow}
-use Rattle.row.specs.Row.{Row, row, withCursor, Called, answered, rowCall}
+use Rattle.row.specs.Row.{Row, row, withCursor, answered, rowCall}
 use Rattle.row.proofs.RowBound.{row-drawn, cursor-length}
 use Rattle.frame.specs.declared.Progress.{Progress}
 use Rattle.frame.specs.declared.BeginAnswer.{BeginAnswer}
 use Rattle.frame.specs.declared.BeginAnswer.the-variants as Begin
 use Rattle.frame.specs.Step.{begun, begin, rowStep, Stepped, step}
 use Rattle.frame.specs.Frame.{FrameRow, frameRow, Frame, byAnswer, byStep, blank, within, rest, fromBegin, frame}
-use Rattle.beside.specs.Beside.{withTop}
-use Rattle.panel.specs.Line.{isDown}
-use Rattle.picture.specs.Picture.{PictureRow, pictureRow, pictureRows, begunRows, frameRows, onward, belowOf, belowRows, firstRow, aboveRow, Picture, picture, first}
+use Rattle.picture.specs.Picture.{PictureRow, pictureRow, pictureRows, begunRows, frameRows, onward, belowOf, belowRows, firstRow, aboveRow, first}
 
 -- what holds of each of some rows
 pub data Each (P : PictureRow → Type 0) : List PictureRow → Type 0 where

@@ -1,10 +1,9 @@
 -- How many lines are left, one or more within 4095 with the row number, does not matter to a row: its words, its refusal, its format and
 -- its cells are the same; its lines and its next state differ.
-use mathlib.Core.Path.{_≡_, refl, sym, _∙_}
-use mathlib.Core.Bool.{Bool, true, false, _&&_}
+use mathlib.Core.Path.{_≡_, sym, _∙_}
+use mathlib.Core.Bool.{Bool}
 use mathlib.Core.List.{List}
 use Prim.Native.Nat.{ℕ, _+_, _<_, _≤_}
-use lib.Dec.{ltb, leb}
 use borrow.Author.Tests.{le-leb, lt-ltb}
 use Rattle.memory.specs.Reading.{Reading, _>>_, check}
 use Rattle.memory.proofs.Related.{Rel, dones, bind, bind-same}

@@ -13,12 +13,12 @@ use Rattle.state.specs.declared.State.{State}
 use Rattle.frame.specs.declared.BeginAnswer.{BeginAnswer}
 use Rattle.frame.specs.declared.BeginAnswer.the-variants as Begin
 use Rattle.frame.specs.Step.{begin}
-use Rattle.frame.specs.Frame.{FrameRow, Frame, fromBegin, frame}
+use Rattle.frame.specs.Frame.{FrameRow, fromBegin, frame}
 use Rattle.panel.specs.declared.Placed.{Placed}
 use Rattle.panel.specs.declared.Placed.the-variants.{Nowhere, At}
 use Rattle.panel.specs.Line.{place, rowAt, background, still, lineAt, line}
 use Rattle.picture.specs.Picture.{PictureRow, pictureRow, pictureRows, begunRows, frameRows, Picture, picture, heightsOf, lineOn, first, stillRow, glidingRow, shownOf, shownOn}
-use Rattle.picture.specs.Still.{RowsOf, HasTheFrame, stillOn, glidingOn, Unshifted, ShowsTheFrame}
+use Rattle.picture.specs.Still.{HasTheFrame, stillOn, glidingOn, ShowsTheFrame}
 use Rattle.picture.proofs.Made.{each-first, frame-made, made-whole}
 use Rattle.picture.proofs.Shown.{on-itself}
 

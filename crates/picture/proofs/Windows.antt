@@ -1,5 +1,5 @@
 -- What a line shows in the columns of a window and elsewhere, and where every shown cell is from.
-use mathlib.Core.Path.{_≡_, refl, ap, sym, subst, _∙_}
+use mathlib.Core.Path.{_≡_, refl, ap, sym, _∙_}
 use mathlib.Core.Bool.{Bool, true, false}
 use mathlib.Core.List.{List, [], _∷_, _++_}
 use mathlib.Core.Option.{Option, none, some}
@@ -16,9 +16,8 @@ use Rattle.panel.specs.declared.Placed.{Placed}
 use Rattle.panel.specs.declared.Placed.the-variants.{Nowhere, At}
 use Rattle.panel.specs.declared.Background.{Background}
 use Rattle.panel.specs.declared.Background.the-variants.{Nothing, Row, Above}
-use Rattle.beside.specs.Beside.{withTop}
 use Rattle.panel.specs.Line.{isDown}
-use Rattle.panel.specs.Shown.{Layer, inColumns, nothing, cellIn, cursorBit, backgroundCell, withCursorOf, shown}
+use Rattle.panel.specs.Shown.{inColumns, nothing, cellIn, cursorBit, backgroundCell, withCursorOf}
 use Rattle.picture.specs.Picture.{PictureRow, Picture, picture, lineOn, first, stillRow, glidingRow, layerOf, behindOf, shownOn}
 use Rattle.picture.specs.Still.{stillOn, glidingOn}
 use Rattle.picture.specs.Windows.{inWindow, shownIn, stillIn, ShowsWindows, WindowsStandStill, NoWindow, NoWindowElsewhere, RowIn, ofFrame, ofBelow, ofAbove, From, dark, ofRow, behind, butForCursor, ShownFrom, ShowsNothingElse}
