@@ -2,6 +2,7 @@
 use mathlib.Core.Path.{_≡_, ap, _∙_}
 use borrow.Author.Needs.{needs}
 use borrow.Author.Tests.{lt-ltb, le-ltb}
+use Prim.Native.Nat.{_<_}
 use native.Mathlib.Omega.{arith}
 use mir.Syntax.{w32}
 use mir.Val.{toZ, ofZ}
@@ -26,7 +27,8 @@ returns : tie.Need-returns
 unfolding background
 returns c =
     let at-lines = c .before .before .before in
-    rw (rw (same (start at-lines)) at (c .before .before .if1 .taken), ← lines at-lines, lt-ltb _ _ (c .before .if2 .taken)) (c .above-at .ensures)
+    let first : start at-lines .args .y < at-lines .lines-of .result = omega arith in
+    rw (rw (same (start at-lines)) at (c .before .before .if1 .taken), ← lines at-lines, lt-ltb _ _ first) (c .above-at .ensures)
 
 returns-2 : tie.Need-returns-2
 unfolding background
