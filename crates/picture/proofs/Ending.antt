@@ -37,7 +37,7 @@ use Rattle.picture.specs.Picture.{PictureRow, Picture, pictureRow, pictu
 use Rattle.picture.specs.EveryLine.{refusalBelow}
 use Rattle.picture.specs.Ending.{Linked, linked, SameNext, oneFurther, EndsUp, EndsDown}
 use Rattle.picture.proofs.Grounds.{row-grounded, Started, Opening, opened, closed, opening}
-use Rattle.picture.proofs.Following.{Follows, stops, draws, rest-following}
+use Rattle.picture.proofs.Following.{Successive, stops, draws, rest-following}
 use Rattle.picture.proofs.Heights.{refuses-none, rows-fill}
 use Rattle.picture.proofs.Places.{sum, sum-append, Along, along-place, place-front, place-next, fills-sum, line-up, line-above, line-down}
 use Rattle.picture.proofs.EveryLine.{frame-below}
@@ -56,7 +56,7 @@ pub data ListChain (linear : Bool) (top : PointerWords) (m hs : List ℕ) : Type
       → BlockChain linear m (main .rows) (firstFormat (main .lines)) hs q u → ListChain linear top m hs
 
 module _ (σ : Settings) (m : List ℕ) where
-  follows-chain : {s t : State} {rs : List FrameRow} {o : Option State} → Follows σ m s rs o → o ≡ some t
+  follows-chain : {s t : State} {rs : List FrameRow} {o : Option State} → Successive σ m s rs o → o ≡ some t
       → BlockChain (σ .linear) m (s .fields .next) (s .fields .format) (heightsOf (pictureRows σ m s rs)) (t .fields .next) (t .fields .format)
   unfolding pictureRows pictureRow nextFields
   follows-chain {t} (stops {s}) e = let same : s ≡ t = cc in rw (← same) here

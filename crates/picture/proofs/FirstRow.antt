@@ -34,7 +34,7 @@ use Rattle.picture.specs.Picture.{PictureRow, Picture, pictureRow, pictu
 use Rattle.picture.specs.Heights.{Tall}
 use Rattle.picture.specs.AfterShift.{BelowFirstRow}
 use Rattle.picture.proofs.Grounds.{from-start, came-to, row-grounded, height-is, Started, Opening, opened, closed, opening}
-use Rattle.picture.proofs.Following.{Follows, stops, draws, following, rest-following}
+use Rattle.picture.proofs.Following.{Successive, stops, draws, following, rest-following}
 use Rattle.picture.proofs.Heights.{refuses-none, frame-tall, above-tall}
 use Rattle.picture.proofs.Places.{sum, line-up}
 use Rattle.picture.proofs.ShiftCalls.{Gives, off, on, call-gives, Reaches, ended, moving, reaches}
@@ -45,7 +45,7 @@ pub data TopRow (linear : Bool) (top : PointerWords) (m : List ℕ) (h : ℕ) : 
       → TopRow linear top m h
 
 module _ (σ : Settings) (m : List ℕ) (w : Words m) where
-  by-rows : {s : State} {rs : List FrameRow} {o : Option State} {r : PictureRow} → Started σ m s → Follows σ m s rs o
+  by-rows : {s : State} {rs : List FrameRow} {o : Option State} {r : PictureRow} → Started σ m s → Successive σ m s rs o
       → first (pictureRows σ m s rs) ≡ some r → TopRow (σ .linear) (σ .top) m (r .height)
   unfolding pictureRows pictureRow firstLines firstFields
   by-rows st stops e = refuses-none (sym e)

@@ -24,14 +24,14 @@ use Rattle.picture.specs.Heights.{Tall, Cut, Fills, empty, last, whole}
 use Rattle.picture.proofs.Grounds.{Grounded, row-grounded, height-bounds, lines-taken, lines-left}
 
 module _ (σ : Settings) (m : List ℕ) where
-  pub data Follows : State → List FrameRow → Option State → Type 0 where
-    stops : {s : State} → Follows s [] (some s)
+  pub data Successive : State → List FrameRow → Option State → Type 0 where
+    stops : {s : State} → Successive s [] (some s)
     draws : {s : State} {n : ℕ} {r : Row} {rs : List FrameRow} {o : Option State} → (s .fields .left ≡ 0 → ⊥) → run m (row σ s) ≡ given n r
-        → Follows (nextOf r) rs o → Follows s (drawnRow σ s n r ∷ rs) o
+        → Successive (nextOf r) rs o → Successive s (drawnRow σ s n r ∷ rs) o
 
-  module _ (go : Progress → Frame) (go-on : (q : Progress) → Follows (q .state) (go q .rows) (go q .state)) (p : Progress) where
+  module _ (go : Progress → Frame) (go-on : (q : Progress) → Successive (q .state) (go q .rows) (go q .state)) (p : Progress) where
     abbrev Goes : Stepped → Type 0
-    Goes x = Follows (p .state) (byStep go p x .rows) (byStep go p x .state)
+    Goes x = Successive (p .state) (byStep go p x .rows) (byStep go p x .state)
 
     by-outcome : (p .state .fields .left ≡ 0 → ⊥) → (o : Outcome Row) → run m (row σ (p .state)) ≡ o
         → Goes (stepped (rowStep p (answered σ (p .state .fields) blank o .answer)) (answered σ (p .state .fields) blank o .buffer))
@@ -44,27 +44,27 @@ module _ (σ : Settings) (m : List ℕ) where
         let l = eqb-false (p .state .fields .left) 0 e in
         subst Goes (by-row σ m p blank l (sym (right-buffer σ m (p .state)))) (by-outcome l (run m (row σ (p .state))) refl)
 
-  pub following : (n : ℕ) (p : Progress) → Follows (p .state) (within n σ m p .rows) (within n σ m p .state)
+  pub following : (n : ℕ) (p : Progress) → Successive (p .state) (within n σ m p .rows) (within n σ m p .state)
   unfolding within
   following zero p = stops
   following (suc n) p = by-lines (within n σ m) (following n) p (eqb (p .state .fields .left) 0) refl
 
-  pub rest-following : (p : Progress) → Follows (p .state) (rest σ m p .rows) (rest σ m p .state)
+  pub rest-following : (p : Progress) → Successive (p .state) (rest σ m p .rows) (rest σ m p .state)
   unfolding rest
   rest-following p = following (p .state .fields .left) p
 
   module _ (w : Words m) where
-    pub follows-tall : {s : State} {rs : List FrameRow} {o : Option State} → Follows s rs o → Tall (pictureRows σ m s rs)
+    pub follows-tall : {s : State} {rs : List FrameRow} {o : Option State} → Successive s rs o → Tall (pictureRows σ m s rs)
     unfolding pictureRows pictureRow
     follows-tall stops = tt
     follows-tall (draws {s} l e k) = let h = height-bounds w (row-grounded σ m s e) in (h .0, h .1, follows-tall k)
 
-    pub follows-cut : {s : State} {rs : List FrameRow} {o : Option State} → Follows s rs o → Cut rs
+    pub follows-cut : {s : State} {rs : List FrameRow} {o : Option State} → Successive s rs o → Cut rs
     follows-cut stops = tt
     follows-cut (draws {s} l e k) = (omega (arith, lines-taken w (row-grounded σ m s e)), follows-cut k)
 
     -- rows that follow one another until no line is left
-    pub follows-fills : {s : State} {rs : List FrameRow} {o : Option State} {t : State} → Follows s rs o → o ≡ some t → t .fields .left ≡ 0
+    pub follows-fills : {s : State} {rs : List FrameRow} {o : Option State} {t : State} → Successive s rs o → o ≡ some t → t .fields .left ≡ 0
         → Fills (s .fields .left) (heightsOf (pictureRows σ m s rs)) (linesOf rs)
     unfolding pictureRows pictureRow
     follows-fills {t} (stops {s}) e z =
@@ -82,7 +82,7 @@ module _ (σ : Settings) (m : List ℕ) where
         cut : (left lines : ℕ) → 1 ≤ left → left ≤ h → lines ≡ left → Fills left (h ∷ []) (lines ∷ [])
         cut left lines one fits same = rw same (last one fits)
 
-        by : {rs : List FrameRow} {o : Option State} → Follows (nextOf r) rs o → o ≡ some t
+        by : {rs : List FrameRow} {o : Option State} → Successive (nextOf r) rs o → o ≡ some t
             → Fills (r .next .left) (heightsOf (pictureRows σ m (nextOf r) rs)) (linesOf rs)
             → Fills (s .fields .left) (h ∷ heightsOf (pictureRows σ m (nextOf r) rs)) (r .lines ∷ linesOf rs)
         by stops same i =

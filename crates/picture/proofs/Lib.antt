@@ -1,3 +1,9 @@
+pub mod Made
+pub mod Shown
+pub mod Still
+pub mod Windows
+pub mod RowLines
+pub mod Beside
 pub mod Grounds
 pub mod Following
 pub mod Heights
