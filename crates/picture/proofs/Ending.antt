@@ -76,7 +76,7 @@ module _ (σ : Settings) (m : List ℕ) where
     unfolding frame frameRows firstFields
     frame-framed latch ok = by (opening latch σ m)
       where
-        by-end : (n : ℕ) (s : State) → begin latch σ m ≡ Begin.Begun (record { state = s; words = n }) → Started σ m s
+        by-end : (n : ℕ) (s : State) → begin latch σ m ≡ Begin.Begun (record { state = s; words = n }) → Started latch σ m s
             → rest σ m (record { state = s; words = n }) .refusal ≡ none → Ends (rest σ m (record { state = s; words = n })) → Framed latch
         by-end n s e st ok (refusing a) = refuses-none (sym a ∙ ok)
         by-end n s e st ok (complete {s = t} a b c) =

@@ -45,7 +45,7 @@ pub data TopRow (linear : Bool) (top : PointerWords) (m : List ℕ) (h : ℕ) : 
       → TopRow linear top m h
 
 module _ (σ : Settings) (m : List ℕ) (w : Words m) where
-  by-rows : {s : State} {rs : List FrameRow} {o : Option State} {r : PictureRow} → Started σ m s → Successive σ m s rs o
+  by-rows : {s : State} {rs : List FrameRow} {o : Option State} {r : PictureRow} {latch : ℕ} → Started latch σ m s → Successive σ m s rs o
       → first (pictureRows σ m s rs) ≡ some r → TopRow (σ .linear) (σ .top) m (r .height)
   unfolding pictureRows pictureRow firstLines firstFields
   by-rows st stops e = refuses-none (sym e)

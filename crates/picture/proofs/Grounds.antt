@@ -19,9 +19,9 @@ use Rattle.state.specs.declared.Fields.{Fields}
 use Rattle.state.specs.declared.State.{State}
 use Rattle.state.specs.State.{stateOf, formatInRange, pointerInRange, windowInRange, inRange}
 use Rattle.layout.specs.Layout.{total, allFit, edgesFit}
-use Rattle.layout.specs.Overlay.{overlaid}
+use Rattle.layout.specs.Overlay.{Overlaid, overlaid}
 use Rattle.background.specs.Background.{BackgroundRow, backgroundBlock, backgroundRow}
-use Rattle.codes.specs.Codes.{blank}
+use Rattle.codes.specs.Codes.{Drawing, blank}
 use Rattle.cells.specs.Cells.{rowCells}
 use Rattle.plan.specs.Plan.{Plan, linesTaken, nextFields, planned, fromBlocks, fromState, plan}
 use Rattle.start.specs.Top.{registered, topBlock}
@@ -80,36 +80,86 @@ module _ (σ : Settings) (m : List ℕ) where
       let same : h ≡ g = cc in
       from-start n m (backgroundBlock (σ .linear) (f .next) (f .format)) (rw same at read)
 
-  blocks-read : (f : Fields) → Lines (f .format .lines) → {k : ℕ} {p : Plan} → run m (fromBlocks σ f) ≡ given k p → Grounded f (p .lines) (p .next)
+  -- what the plan of a row is made of
+  pub record Origin (f : Fields) (p : Plan) : Type 0 where
+    pub words : ℕ
+    pub ground : BackgroundRow
+    pub read : run m (backgroundBlock (σ .linear) (f .next) (f .format)) ≡ given words ground
+    pub due-words : ℕ
+    pub due : WindowInHand
+    pub due-read : run m (dueWindow (σ .linear) (f .row) (f .window)) ≡ given due-words due
+    pub over-from : ℕ
+    pub over-words : ℕ
+    pub over : Overlaid
+    pub over-read : runFrom over-from m (overlaid σ (f .row) due) ≡ given over-words over
+    pub same : planned f ground over ≡ p
+
+  blocks-read : (f : Fields) {k : ℕ} {p : Plan} → run m (fromBlocks σ f) ≡ given k p → Origin f p
   unfolding runFrom
-  blocks-read f tall {p} e =
-      came-to 0 m (dueWindow (σ .linear) (f .row) (f .window)) _ e λ i w _ e₁.
+  blocks-read f {p} e =
+      came-to 0 m (dueWindow (σ .linear) (f .row) (f .window)) _ e λ i w due e₁.
       came-to i m (backgroundRow σ f) _ e₁ λ j g read e₂.
-      came-to j m (overlaid σ (f .row) w) _ e₂ λ k o _ e₃.
+      came-to j m (overlaid σ (f .row) w) _ e₂ λ k o over e₃.
       came-to k m (check 12 (edgesFit (σ .hidden) (o .overlay) (g .block .segments))) _ e₃ λ l _ _ e₄.
-      let same : planned f g o ≡ p = cc in
       let b = background-read i f read in
       record {
         words = b .0;
         ground = g;
-        window = o .window;
         read = b .1;
-        tall = tall;
-        taken = ap (λ (p : Plan). p .lines) (sym same);
-        leads = ap (λ (p : Plan). p .next) (sym same);
+        due-words = i;
+        due = w;
+        due-read = due;
+        over-from = j;
+        over-words = k;
+        over = o;
+        over-read = over;
+        same = cc;
       }
 
-  pub row-grounded : (s : State) {n : ℕ} {r : Row} → run m (row σ s) ≡ given n r → Grounded (s .fields) (r .lines) (r .next)
+  -- .. and the row: its plan, and its drawing
+  pub record Origins (s : State) (r : Row) : Type 0 where
+    pub plan : Plan
+    pub origin : Origin (s .fields) plan
+    pub tall : Lines (s .fields .format .lines)
+    pub drawn-from : ℕ
+    pub drawn-words : ℕ
+    pub drawing : Drawing
+    pub drawn : runFrom drawn-from m (rowCells (codeSettings σ) (s .fields .fill) (plan .overlay) (plan .segments) (blank (s .latch))) ≡ given drawn-words drawing
+    pub same : drawnBy plan drawing ≡ r
+
+  pub row-origins : (s : State) {n : ℕ} {r : Row} → run m (row σ s) ≡ given n r → Origins s r
   unfolding row plan runFrom
-  row-grounded s {n} {r} e =
+  row-origins s {n} {r} e =
       let f = s .fields in
       came-to 0 m (plan σ f) (fromPlan σ (f .fill) (s .latch)) e λ i p planned last.
-      came-to i m (rowCells (codeSettings σ) (f .fill) (p .overlay) (p .segments) (blank (s .latch))) _ last λ j d _ drawn.
-      let same : drawnBy p d ≡ r = cc in
+      came-to i m (rowCells (codeSettings σ) (f .fill) (p .overlay) (p .segments) (blank (s .latch))) _ last λ j d cells drawn.
       let good = settings-passed 0 m σ (λ _. fromState σ f) planned in
       let range = passed 0 m 3 (inRange f) _ (good .1) in
       let lined = passed 0 m 4 (ltb 0 (f .left)) _ (range .1) in
-      rw (← same) (blocks-read f (in-range-lines f (range .0)) (lined .1))
+      record {
+        plan = p;
+        origin = blocks-read f (lined .1);
+        tall = in-range-lines f (range .0);
+        drawn-from = i;
+        drawn-words = j;
+        drawing = d;
+        drawn = cells;
+        same = cc;
+      }
+
+  pub row-grounded : (s : State) {n : ℕ} {r : Row} → run m (row σ s) ≡ given n r → Grounded (s .fields) (r .lines) (r .next)
+  row-grounded s e =
+      let k = row-origins s e in
+      let o = k .origin in
+      record {
+        words = o .words;
+        ground = o .ground;
+        window = o .over .window;
+        read = o .read;
+        tall = k .tall;
+        taken = ap (λ (r : Row). r .lines) (sym (k .same)) ∙ ap (λ (p : Plan). p .lines) (sym (o .same));
+        leads = ap (λ (r : Row). r .next) (sym (k .same)) ∙ ap (λ (p : Plan). p .next) (sym (o .same));
+      }
 
 -- what follows of its numbers
 module _ {σ : Settings} {m : List ℕ} (w : Words m) {f : Fields} {lines : ℕ} {next : Fields} (g : Grounded σ m f lines next) where
@@ -132,26 +182,40 @@ module _ {σ : Settings} {m : List ℕ} (w : Words m) {f : Fields} {lines : ℕ}
 
 -- ---- a start ----
 -- the main block that a start has read, from which its state has the first row block and the lines
-pub record Started (σ : Settings) (m : List ℕ) (s : State) : Type 0 where
+pub record Started (latch : ℕ) (σ : Settings) (m : List ℕ) (s : State) : Type 0 where
   pub words : ℕ
   pub main : MainBlock
   pub window : WindowInHand
   pub read : run m (topBlock (σ .linear) (σ .top)) ≡ given words main
+  pub window-from : ℕ
+  pub window-words : ℕ
+  pub window-read : runFrom window-from m (firstWindow (σ .linear) (registered (σ .linear) (σ .tow))) ≡ given window-words window
   pub leads : s .fields ≡ firstFields σ main window
+  pub latched : s .latch ≡ latch
 
 pub data Opening (latch : ℕ) (σ : Settings) (m : List ℕ) : Type 0 where
-  opened : {n : ℕ} {s : State} → begin latch σ m ≡ Begin.Begun (record { state = s; words = n }) → Started σ m s → Opening latch σ m
+  opened : {n : ℕ} {s : State} → begin latch σ m ≡ Begin.Begun (record { state = s; words = n }) → Started latch σ m s → Opening latch σ m
   closed : {r : Refusal} → begin latch σ m ≡ Begin.Refused r → Opening latch σ m
 
 module _ (latch : ℕ) (σ : Settings) (m : List ℕ) where
-  start-read : {n : ℕ} {s : State} → run m (startFrom latch σ) ≡ given n s → Started σ m s
+  start-read : {n : ℕ} {s : State} → run m (startFrom latch σ) ≡ given n s → Started latch σ m s
   unfolding startFrom windowStart runFrom
   start-read {n} {s} e =
       let settled = settings-passed 0 m σ (λ _. mainStart latch σ) e in
       came-to 0 m (topBlock (σ .linear) (σ .top)) (windowStart latch σ) (settled .1) λ i main read e₁.
-      came-to i m (firstWindow (σ .linear) (registered (σ .linear) (σ .tow))) _ e₁ λ j w _ e₂.
+      came-to i m (firstWindow (σ .linear) (registered (σ .linear) (σ .tow))) _ e₁ λ j w first e₂.
       let same : stateOf latch (firstFields σ main w) ≡ s = cc in
-      record { words = i; main = main; window = w; read = read; leads = ap (λ (s : State). s .fields) (sym same) }
+      record {
+        words = i;
+        main = main;
+        window = w;
+        read = read;
+        window-from = i;
+        window-words = j;
+        window-read = first;
+        leads = ap (λ (s : State). s .fields) (sym same);
+        latched = ap (λ (s : State). s .latch) (sym same);
+      }
 
   pub opening : Opening latch σ m
   unfolding begin

@@ -13,3 +13,5 @@ pub mod ShiftCalls
 pub mod FirstRow
 pub mod BlockChains
 pub mod Ending
+pub mod PlainRows
+pub mod EndingCells

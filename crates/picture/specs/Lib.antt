@@ -6,3 +6,4 @@ pub mod Heights
 pub mod EveryLine
 pub mod AfterShift
 pub mod Ending
+pub mod EndingCells
