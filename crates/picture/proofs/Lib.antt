@@ -1,5 +1,6 @@
 pub mod Made
 pub mod Shown
+pub mod Clear
 pub mod Still
 pub mod Windows
 pub mod RowLines

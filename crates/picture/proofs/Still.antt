@@ -112,7 +112,7 @@ module _ (soft : PointerWords) (latch : ℕ) (σ : Settings) (m : List ℕ) (w :
   unfolding shownOn
   row-shown s e =
       ap (shownOf (stillOn p y)) one-row ∙ ap (λ (o : Option PictureRow). shownOf o o) e
-      ∙ on-itself (s .cells) (s .columns) (s .behind) (whole s (lineOn p y .still) e)
+      ∙ on-itself (s .cells) _ _ (whole s (lineOn p y .still) e)
 
 pub shows-the-frame : ShowsTheFrame
 shows-the-frame soft latch σ m w y = record {

@@ -1,24 +1,29 @@
--- What a line shows in the columns of a window, and where every shown cell is from.
+-- What a line shows in the columns of a window and elsewhere, and where every shown cell is from.
 use mathlib.Core.Path.{_≡_, refl, ap, sym, subst, _∙_}
 use mathlib.Core.Bool.{Bool, true, false}
 use mathlib.Core.List.{List, [], _∷_, _++_}
 use mathlib.Core.Option.{Option, none, some}
 use Prim.Native.Nat.{ℕ, zero, suc, _<_}
 use native.Mathlib.Omega.{arith}
-use lib.IntN.{ℤ}
+use lib.IntN.{ℤ, pos, natAbs}
+use lib.Signed.{ltZ}
 use lib.ListN.{drop}
 use Rattle.memory.specs.Word.{if_then_else_}
-use Rattle.memory.proofs.ReadBounds.{if-cases}
+use Rattle.memory.proofs.ReadBounds.{Words, if-cases}
 use Rattle.settings.specs.declared.PointerWords.{PointerWords}
 use Rattle.settings.specs.declared.Settings.{Settings}
 use Rattle.panel.specs.declared.Placed.{Placed}
 use Rattle.panel.specs.declared.Placed.the-variants.{Nowhere, At}
 use Rattle.panel.specs.declared.Background.{Background}
 use Rattle.panel.specs.declared.Background.the-variants.{Nothing, Row, Above}
+use Rattle.beside.specs.Beside.{withTop}
+use Rattle.panel.specs.Line.{isDown}
 use Rattle.panel.specs.Shown.{Layer, inColumns, nothing, cellIn, cursorBit, backgroundCell, withCursorOf, shown}
 use Rattle.picture.specs.Picture.{PictureRow, Picture, picture, lineOn, first, stillRow, glidingRow, layerOf, behindOf, shownOn}
 use Rattle.picture.specs.Still.{stillOn, glidingOn}
-use Rattle.picture.specs.Windows.{inWindow, shownIn, stillIn, ShowsWindows, WindowsStandStill, RowIn, ofFrame, ofBelow, ofAbove, From, dark, ofRow, behind, butForCursor, ShownFrom, ShowsNothingElse}
+use Rattle.picture.specs.Windows.{inWindow, shownIn, stillIn, ShowsWindows, WindowsStandStill, NoWindow, NoWindowElsewhere, RowIn, ofFrame, ofBelow, ofAbove, From, dark, ofRow, behind, butForCursor, ShownFrom, ShowsNothingElse}
+use Rattle.picture.proofs.Made.{each-first, each-if, frame-made, above-made, below-made}
+use Rattle.picture.proofs.Clear.{nothing-clear, cursor-clear, ClearRow, made-clear}
 use Rattle.picture.proofs.Shown.{Shows, nowhere, stands, glides, shows}
 use Rattle.picture.proofs.Still.{still-place}
 
@@ -161,3 +166,28 @@ module _ (p : Picture) (y x : ℕ) where
 
 pub shows-nothing-else : ShowsNothingElse
 shows-nothing-else p y x l = by-shown p y x (shows-in p y x l) refl
+
+-- ---- elsewhere ----
+
+module _ (shift : ℤ) (soft : PointerWords) (latch : ℕ) (σ : Settings) (m : List ℕ) (w : Words m) where
+  abbrev shifted : Picture
+  shifted = picture shift soft latch σ m
+
+  rows-clear : {r : PictureRow} → RowIn shifted r → ClearRow r
+  unfolding picture
+  rows-clear (ofFrame i e) = made-clear σ m w (each-first i (frame-made σ m w latch) e)
+  rows-clear (ofBelow i e) = made-clear σ m w (each-first i (each-if (ltZ (pos 0) shift) (below-made σ m w latch (natAbs shift))) e)
+  rows-clear (ofAbove e) = made-clear _ m w (each-first 0 (each-if (isDown shift) (above-made _ m w _)) e)
+
+  gliding-clear : {x c : ℕ} → Gliding shifted x c → NoWindow c
+  gliding-clear no-row = nothing-clear
+  gliding-clear {x} (outside r e) = rows-clear r .cells x e
+  gliding-clear {x} (inside r e) = rows-clear r .behind x
+
+  elsewhere : (y x : ℕ) → inWindow shifted y x ≡ false → {c : ℕ} → ShowsIn shifted y x c → NoWindow c
+  elsewhere y x h (nowhere e) = nothing-clear
+  elsewhere y x h (stands e) = absurd (apart (sym e ∙ h))
+  elsewhere y x h (glides e) = cursor-clear _ (gliding-clear (gliding shifted x y)) _
+
+pub no-window-elsewhere : NoWindowElsewhere
+no-window-elsewhere shift soft latch σ m w y x l h = elsewhere shift soft latch σ m w y x h (shows-in (picture shift soft latch σ m) y x l)

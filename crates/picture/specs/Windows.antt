@@ -9,6 +9,7 @@ use lib.IntN.{ℤ}
 use lib.ListN.{drop}
 use Rattle.settings.specs.declared.PointerWords.{PointerWords}
 use Rattle.settings.specs.declared.Settings.{Settings}
+use Rattle.codes.specs.Attribute.{sourceOf, windowNumberOf}
 use Rattle.panel.specs.Shown.{inColumns, nothing, cellIn, cursorBit}
 use Rattle.picture.specs.Picture.{PictureRow, Picture, picture, lineOn, first, layerOf, shownOn}
 use Rattle.picture.specs.Still.{WordsFit, stillOn}
@@ -40,6 +41,18 @@ abbrev pub WindowsStandStill : Type 0
 WindowsStandStill =
     (a b : ℤ) (soft : PointerWords) (latch : ℕ) (σ : Settings) (m : List ℕ) (y : ℕ)
     → SameStill (picture a soft latch σ m) (picture b soft latch σ m) y
+
+-- ---- elsewhere ----
+
+-- "source (0 fill, 1 background, 2 window)"; "In cells of source 2 bits 31..24 hold the window's number along the chain" (02)
+abbrev pub NoWindow : ℕ → Type 0
+NoWindow c = (sourceOf c ≡ 2 → ⊥) × (windowNumberOf c ≡ 0)
+
+-- no window text off its place
+abbrev pub NoWindowElsewhere : Type 0
+NoWindowElsewhere =
+    (shift : ℤ) (soft : PointerWords) (latch : ℕ) (σ : Settings) (m : List ℕ) → WordsFit m → (y x : ℕ) → x < 132
+    → inWindow (picture shift soft latch σ m) y x ≡ false → NoWindow (shownIn (picture shift soft latch σ m) y x)
 
 -- ---- where every shown cell is from ----
 
