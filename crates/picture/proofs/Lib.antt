@@ -1,3 +1,10 @@
+pub mod Made
+pub mod Shown
+pub mod Clear
+pub mod Still
+pub mod Windows
+pub mod RowLines
+pub mod Beside
 pub mod Grounds
 pub mod Following
 pub mod Heights
@@ -7,13 +14,6 @@ pub mod ShiftCalls
 pub mod FirstRow
 pub mod BlockChains
 pub mod Ending
-pub mod Made
-pub mod Shown
-pub mod Clear
-pub mod Still
-pub mod Windows
-pub mod RowLines
-pub mod Beside
 pub mod FewRows
 pub mod PlainRows
 pub mod EndingCells

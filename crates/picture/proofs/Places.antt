@@ -5,7 +5,7 @@ use mathlib.Core.List.{List, [], _∷_, _++_}
 use Prim.Native.Nat.{ℕ, _+_, _-_, _≤_, _<_}
 use native.Mathlib.Omega.{arith}
 use lib.IntN.{ℤ, natAbs}
-use lib.ListN.{length, take}
+use lib.ListN.{length}
 use lib.Dec.{ltb}
 use borrow.Author.Tests.{ltb-false, lt-ltb, le-ltb}
 use Rattle.memory.proofs.ReadBounds.{if-cases}
@@ -17,6 +17,7 @@ use Rattle.panel.specs.Line.{placeAt, later, place, rowAt, aboveAt, isDown, bac
 use Rattle.picture.specs.Picture.{PictureRow, Picture, heightAbove, heightsOf, lineOn}
 use Rattle.picture.specs.EveryLine.{lastOf}
 use Rattle.picture.specs.Heights.{Fills, empty, last, whole}
+use Rattle.picture.proofs.Still.{take-heights}
 
 abbrev pub sum : List ℕ → ℕ
 sum [] = 0
@@ -98,10 +99,6 @@ fills-last a b one (whole {h} c k) = omega (arith, fills-last h h c k)
 heights-append : (rs bs : List PictureRow) → heightsOf (rs ++ bs) ≡ heightsOf rs ++ heightsOf bs
 heights-append [] bs = refl
 heights-append (r ∷ rs) bs = ap (λ (hs : List ℕ). r .height ∷ hs) (heights-append rs bs)
-
-take-heights : (rs bs : List PictureRow) → take (length rs) (heightsOf (rs ++ bs)) ≡ heightsOf rs
-take-heights [] bs = refl
-take-heights (r ∷ rs) bs = ap (λ (hs : List ℕ). r .height ∷ hs) (take-heights rs bs)
 
 still-line : (shift : ℤ) (above : ℕ) (heights : List ℕ) (rows y : ℕ) → (still heights rows y ≡ Nowhere → ⊥)
     → line shift above heights rows y .background ≡ background shift above heights rows y

@@ -51,7 +51,7 @@ has-the-frame shift soft latch σ m = record {
 
 -- ---- what stands still ----
 
-take-heights : (rs qs : List PictureRow) → take (length rs) (heightsOf (rs ++ qs)) ≡ heightsOf rs
+pub take-heights : (rs qs : List PictureRow) → take (length rs) (heightsOf (rs ++ qs)) ≡ heightsOf rs
 take-heights [] qs = refl
 take-heights (r ∷ rs) qs = ap (_∷_ (r .height)) (take-heights rs qs)
 

@@ -19,12 +19,12 @@ use Rattle.scroll.specs.Scroll.{edgeLines, shiftCall}
 use Rattle.panel.specs.declared.Background.the-variants.{Row}
 use Rattle.panel.specs.Line.{placeAt, isDown}
 use Rattle.picture.specs.Picture.{PictureRow, picture, lineOn, first}
-use Rattle.picture.specs.Heights.{WordsOf}
+use Rattle.picture.specs.Still.{WordsFit}
 
 -- "After an accepted shift call in the same memory |shift| < the height of the frame's row 0 (up: it is at the top, from scan line
 -- `shift`) or of the row above." The frame has the hard top that the call gave.
 abbrev pub BelowFirstRow : Type 0
-BelowFirstRow = (σ : Settings) (m : List ℕ) → WordsOf m → (soft : PointerWords) (last : Scroll) (s : FrameShift)
+BelowFirstRow = (σ : Settings) (m : List ℕ) → WordsFit m → (soft : PointerWords) (last : Scroll) (s : FrameShift)
     → shiftCall σ m soft last ≡ Accepted s → (latch : ℕ) (r : PictureRow)
     → let shift = s .scroll .shift in
     let p = picture shift soft latch (withTop σ (s .top)) m in
@@ -42,7 +42,7 @@ pub data Moves (lines n : ℕ) (hard soft : PointerWords) (s t : FrameShift) : T
 -- "from call to call of one scroll, memory and soft top unchanged, |shift| grows by 0 or the rate's lines; at the end n - |shift| is 1
 -- to the rate's lines"
 abbrev pub Motion : Type 0
-Motion = (σ : Settings) (m : List ℕ) → WordsOf m → (soft : PointerWords) (last : Scroll) (s t : FrameShift)
+Motion = (σ : Settings) (m : List ℕ) → WordsFit m → (soft : PointerWords) (last : Scroll) (s t : FrameShift)
     → shiftCall σ m soft last ≡ Accepted s → shiftCall σ m soft (s .scroll) ≡ Accepted t
     → (hard : MainBlock) (i k n : ℕ) → run m (topBlock (σ .linear) (σ .top)) ≡ given i hard → enabled hard ≡ true
     → run m (edgeLines (σ .linear) soft hard) ≡ given k n

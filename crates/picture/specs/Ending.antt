@@ -20,7 +20,7 @@ use Rattle.panel.specs.declared.Background.{Background}
 use Rattle.panel.specs.declared.Background.the-variants.{Nothing, Row, Above}
 use Rattle.panel.specs.Line.{placeAt, isDown}
 use Rattle.picture.specs.Picture.{picture, heightAbove, heightsOf, lineOn}
-use Rattle.picture.specs.Heights.{WordsOf}
+use Rattle.picture.specs.Still.{WordsFit}
 use Rattle.picture.specs.EveryLine.{refusalBelow}
 
 -- the first row pointer of the main block at a top is the link of row 0 of another list
@@ -43,7 +43,7 @@ oneFurther (Above p) = Row p
 -- soft one; nothing is refused. n is the height of row 0." "line y at shift n has row i + 1 and scan line l exactly where line y of the
 -- frame that ends the scroll has row i and l." The two frames may start from any latches.
 abbrev pub EndsUp : Type 0
-EndsUp = (shift : ℤ) (soft : PointerWords) (latch latch′ : ℕ) (σ : Settings) (m : List ℕ) → WordsOf m
+EndsUp = (shift : ℤ) (soft : PointerWords) (latch latch′ : ℕ) (σ : Settings) (m : List ℕ) → WordsFit m
     → let p = picture shift soft latch σ m in
     let e = picture (pos 0) soft latch′ (withTop σ soft) m in
     Linked (σ .linear) m (σ .top) soft → SameNext (heightsOf (p .rows) ++ heightsOf (p .below)) (heightsOf (e .rows))
@@ -54,7 +54,7 @@ EndsUp = (shift : ℤ) (soft : PointerWords) (latch latch′ : ℕ) (σ : Settin
 -- "Down: soft row 0's link is the hard first pointer, soft row 1 has hard row 0's height, n is soft row 0's." "at shift -n: the row above
 -- where that has row 0, row i where it has row i + 1"
 abbrev pub EndsDown : Type 0
-EndsDown = (shift : ℤ) (soft : PointerWords) (latch latch′ : ℕ) (σ : Settings) (m : List ℕ) → WordsOf m
+EndsDown = (shift : ℤ) (soft : PointerWords) (latch latch′ : ℕ) (σ : Settings) (m : List ℕ) → WordsFit m
     → let p = picture shift soft latch σ m in
     let e = picture (pos 0) soft latch′ (withTop σ soft) m in
     Linked (σ .linear) m soft (σ .top) → SameNext (heightsOf (e .rows)) (heightsOf (p .rows))

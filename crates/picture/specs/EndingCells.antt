@@ -20,7 +20,7 @@ use Rattle.frame.specs.Frame.{FrameRow, frame}
 use Rattle.beside.specs.Beside.{withTop}
 use Rattle.panel.specs.Line.{isDown}
 use Rattle.picture.specs.Picture.{PictureRow, picture, first}
-use Rattle.picture.specs.Heights.{WordsOf}
+use Rattle.picture.specs.Still.{WordsFit}
 use Rattle.picture.specs.Ending.{Linked}
 
 -- the same cells but for the absolute cursor, bit 22
@@ -38,7 +38,7 @@ Leaves latch σ m left = (r : FrameRow) → getElem? (frame latch σ m .rows) 0 
 
 -- "The same cells but for bit 22 where the latches agree: up, all rows if the latch handed on is the one that row 0 left"
 abbrev pub CellsUp : Type 0
-CellsUp = (shift : ℤ) (soft : PointerWords) (latch latch′ : ℕ) (σ : Settings) (m : List ℕ) → WordsOf m
+CellsUp = (shift : ℤ) (soft : PointerWords) (latch latch′ : ℕ) (σ : Settings) (m : List ℕ) → WordsFit m
     → let p = picture shift soft latch σ m in
     let e = picture (pos 0) soft latch′ (withTop σ soft) m in
     Linked (σ .linear) m (σ .top) soft → null (registered (σ .linear) (σ .tow)) ≡ true → SameFill (σ .linear) m (σ .top) soft

@@ -16,7 +16,7 @@ use Rattle.insertion.specs.Insertion.{linesOf}
 use Rattle.panel.specs.declared.Background.the-variants.{Nothing}
 use Rattle.panel.specs.Line.{isDown}
 use Rattle.picture.specs.Picture.{PictureRow, Picture, onward, picture, heightAbove, heightsOf, lineOn}
-use Rattle.picture.specs.Heights.{WordsOf}
+use Rattle.picture.specs.Still.{WordsFit}
 
 -- of `lines` lines of the screen
 abbrev pub Everywhere : (lines : ℕ) → Picture → Type 0
@@ -29,7 +29,7 @@ refusalBelow σ m n (some s) = rest σ m (onward n s) .refusal
 
 -- "Frame and all rows that come in accepted, and down |shift| <= the height of the row above: every line has a background."
 abbrev pub EveryLine : Type 0
-EveryLine = (shift : ℤ) (soft : PointerWords) (latch : ℕ) (σ : Settings) (m : List ℕ) → WordsOf m
+EveryLine = (shift : ℤ) (soft : PointerWords) (latch : ℕ) (σ : Settings) (m : List ℕ) → WordsFit m
     → let p = picture shift soft latch σ m in
     p .refusal ≡ none
     → (ltZ (pos 0) shift ≡ true → refusalBelow σ m (natAbs shift) (frame latch σ m .state) ≡ none)
@@ -51,7 +51,7 @@ lastOf n (x ∷ xs) = lastOf x xs
 
 -- "One row below is enough exactly where shift <= (height of the last row - its lines) + height of the row below."
 abbrev pub OneIsEnough : Type 0
-OneIsEnough = (shift : ℤ) (soft : PointerWords) (latch : ℕ) (σ : Settings) (m : List ℕ) → WordsOf m → 1 ≤ linesForRows σ
+OneIsEnough = (shift : ℤ) (soft : PointerWords) (latch : ℕ) (σ : Settings) (m : List ℕ) → WordsFit m → 1 ≤ linesForRows σ
     → let p = picture shift soft latch σ m in
     p .refusal ≡ none → ltZ (pos 0) shift ≡ true
     → let most = lastOf 0 (heightsOf (p .rows)) - lastOf 0 (linesOf (frame latch σ m .rows)) + heightAbove (p .below) in
