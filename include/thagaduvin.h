@@ -28,8 +28,8 @@
  * as no other one writes what is lent, or reads what the call writes, until the call is done. `rt staticlib` makes it in
  * five parts, named below where their calls begin; `./build library` puts them together.
  *
- * Stack of a call, at most, as measured: half a kilobyte for sheet, start, latch, bus, read_mail, write_word, join and
- * apply; one for shift; two for write_mail and mend; three for row, effect, beside and convert. (Where memcpy and memset
+ * Stack of a call, at most, as measured: half a kilobyte for sheet, start, latch, line, shown, bus, read_mail, write_word,
+ * join and apply; one for shift; two for write_mail and mend; three for row, effect, beside and convert. (Where memcpy and memset
  * are bound lazily, the first call of each takes two more.) */
 #ifndef THAGADUVIN_H
 #define THAGADUVIN_H
