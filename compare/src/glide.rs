@@ -1,4 +1,4 @@
-//! The glide program: a script with a draw for each frame, and its whole output.
+//! The text of a soft scroll: a script with a draw for each frame, and what every line of its frames shows.
 
 use crate::picture::{Cells, Kind, Picture, Scan, Scene, NOTHING};
 use crate::script::{line, put_cells, put_refusal, Script};
@@ -16,7 +16,7 @@ struct Console {
     out: Vec<u8>,
 }
 
-/// The whole output of the glide program for its input.
+/// The whole text of an input.
 pub fn output(input: &[u8]) -> Vec<u8> {
     let mut console = Console {
         script: Script::new(),

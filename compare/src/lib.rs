@@ -9,6 +9,7 @@ pub mod desks;
 pub mod folder;
 pub mod generate;
 pub mod glide;
+pub mod glides;
 mod header;
 pub mod host;
 pub mod library;
@@ -29,6 +30,8 @@ mod bus_tests;
 mod convert_tests;
 #[cfg(test)]
 mod desks_tests;
+#[cfg(test)]
+mod glide_tests;
 #[cfg(test)]
 mod host_tests;
 #[cfg(test)]

@@ -1,4 +1,5 @@
-//! The glide program by this implementation: a script on standard input, its output on standard output.
+//! A soft scroll, frame by frame and line by line: a script with a draw for each frame on standard input, its text on standard
+//! output.
 
 use compare::{glide, script};
 

@@ -1,11 +1,11 @@
-//! Writes numbered scripts with the outputs of the glide program to a folder: a frame whose soft tops, scrolls and row heights
-//! change between draws; seldom damaged, cut or with other bytes.
+//! Writes numbered scripts of soft scrolls with what is printed of them to a folder: first the named ones, then, if more are asked
+//! for, frames whose soft tops, scrolls and row heights change between draws; seldom damaged, cut or with other bytes.
 //!
 //! Usage: glided FOLDER [COUNT]
 
 use compare::generate::{case, scroll_word, Case, Rng, Shape};
 use compare::rules::pointer;
-use compare::{folder, glide, script};
+use compare::{folder, glide, glides, script};
 
 /// Draws of one script, at most.
 const DRAWS: usize = 7;
@@ -105,5 +105,6 @@ fn frames(rng: &mut Rng) -> Vec<u8> {
 fn main() {
     let mut rng = Rng::new(34);
     let outputs = |bytes: &[u8]| vec![("out", glide::output(bytes))];
-    folder::fill(Vec::new(), outputs, |_| ("random", frames(&mut rng)));
+    let named = glides::ALL.iter().map(|g| (g.name, g.script.to_vec()));
+    folder::fill(named.collect(), outputs, |_| ("random", frames(&mut rng)));
 }
