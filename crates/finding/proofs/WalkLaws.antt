@@ -17,14 +17,15 @@ use Rattle.state.specs.declared.State.{State}
 use Rattle.row.specs.declared.DrawnRow.{DrawnRow}
 use Rattle.row.specs.declared.RowAnswer.{RowAnswer}
 use Rattle.row.specs.declared.RowAnswer.the-variants as Row
-use Rattle.row.specs.Row.{Called, called, rowCall}
+use Rattle.memory.specs.Reading.{Outcome, given, refused as refused-by, run}
+use Rattle.row.specs.Row.{Row, row as row-read, Called, called, answered, rowCall}
 use Rattle.frame.specs.declared.Progress.{Progress}
 use Rattle.frame.specs.Step.{Stepped, stepped, step, after, rowStep}
 use Rattle.frame.specs.declared.StepAnswer.the-variants as Step
 use Rattle.frame.specs.Frame.{Frame, frameRow, stopped, withRow, byAnswer, byStep, blank, within, rest}
 use Rattle.frame.proofs.StepLaws.{no-line, by-row, Advanced, advanced}
 use Rattle.frame.proofs.Frames.{next-step}
-use Rattle.picture.specs.Picture.{PictureRow, pictureRow, pictureRows}
+use Rattle.picture.specs.Picture.{PictureRow, pictureRow, pictureRows, acceptedCells}
 use Rattle.finding.specs.Finding.{Located, located, beyond, locate, from, restOf, rowsOf, Passed}
 
 -- a frame but for its words
@@ -175,3 +176,13 @@ module _ {σ : Settings} {m : List ℕ} (words : Words m) {s₀ s : State} (t : 
         refusal = t .refusal ∙ same-refusal σ m words s b l not-zero e;
         state = t .state ∙ same-state σ m words s b l not-zero e;
       }
+
+-- the cells of an accepted row do not depend on what its buffer held
+module _ (σ : Settings) (m : List ℕ) (s : State) where
+  one-outcome : (a b : List ℕ) (o : Outcome Row) → acceptedCells (answered σ (s .fields) a o) ≡ acceptedCells (answered σ (s .fields) b o)
+  one-outcome a b (given n r) = refl
+  one-outcome a b (refused-by x) = refl
+
+  pub any-cells : (b : List ℕ) → length b ≡ 132 → acceptedCells (rowCall σ m s b) ≡ acceptedCells (rowCall σ m s blank)
+  unfolding rowCall
+  any-cells b l = rw l (one-outcome b blank (run m (row-read σ s)))

@@ -1,11 +1,15 @@
 // Which row of a frame has a line, found by going through its rows; and how a frame ends.
 use memory::Refusal;
+use panel::Columns;
 use row::DrawnRow;
 use row::RowAnswer;
 use settings::Settings;
 use state::State;
+use windows::WindowInHand;
 ghost use mathlib.Core.Path.{_≡_};
 ghost use lib.ListN.{length};
+ghost use Rattle.panel.specs.Shown.{noColumns};
+ghost use Rattle.picture.specs.Picture.{columnsOf};
 ghost use Rattle.finding.specs.Finding.{Walks, Ends};
 
 // A row that has a line: its number among the rows, the scan line, its answer and the state before it.
@@ -83,4 +87,31 @@ pub fn end_of(settings: Settings, mem: &[u16], state: State) -> FrameEnd
         }
     }
     FrameEnd::Ended(before)
+}
+
+// The columns of the window on a row, from the row's number and the window in hand after it.
+pub fn columns_of(number: u32, window: WindowInHand) -> Columns
+    ensures { λ r. ⌜ r ≡ columnsOf number «window» ⌝ }
+{
+    match window {
+        WindowInHand::Absent => no_columns(),
+        WindowInHand::Present(w) => {
+            let block = w.block;
+            if (block.top as u32 <= number) & (number <= block.bottom as u32) {
+                Columns {
+                    first: block.left as u32,
+                    last: block.right as u32,
+                }
+            } else {
+                no_columns()
+            }
+        }
+    }
+}
+
+// No window: the first column is past the last.
+fn no_columns() -> Columns
+    ensures { λ r. ⌜ r ≡ noColumns ⌝ }
+{
+    Columns { first: 1, last: 0 }
 }
