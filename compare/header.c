@@ -187,6 +187,34 @@ static void scrolls(void) {
     hold("row 0 above", same(cells, cells_too, sizeof cells) && same(list, list_too, sizeof list) && beside.words == 19);
 }
 
+static void lines(void) {
+    static const uint32_t heights[] = {8, 8, 4};
+    static struct thagaduvin_picture_row still, background;
+    struct thagaduvin_line_answer line;
+    uint32_t line_numbers[THAGADUVIN_LINE_ANSWER];
+    size_t i;
+    BOTH("line", 0, thagaduvin_line_of(3, 0, heights, 3, 2, 6, &line),
+         thagaduvin_line(3, 0, heights, 3, 2, 6, line_numbers, THAGADUVIN_LINE_ANSWER), line, line_numbers);
+    hold("row 1 glides over row 0", line.background == 1 && line.background_index == 1 && line.background_scan == 1 &&
+                                        line.still == 1 && line.still_index == 0 && line.still_scan == 6 && line.lines == 2);
+    for (i = 0; i < THAGADUVIN_CELLS; i++) {
+        still.cells[i] = 0x00500041;
+        background.cells[i] = 0x00100042;
+        background.behind[i] = 0x00100043;
+    }
+    still.first = 4, still.last = 7;
+    background.first = 6, background.last = 9, background.has_behind = 1;
+    BOTH("shown", 0, thagaduvin_shown_of(&still, &background, &cells),
+         thagaduvin_shown(still.cells, THAGADUVIN_CELLS, 4, 7, background.cells, THAGADUVIN_CELLS, 6, 9, background.behind,
+                          THAGADUVIN_CELLS, cells_too, THAGADUVIN_CELLS),
+         cells, cells_too);
+    hold("the window stands still", cells[3] == 0x00500042 && cells[4] == 0x00500041 && cells[7] == 0x00500041 &&
+                                        cells[8] == 0x00500043 && cells[10] == 0x00500042);
+    hold("no row glides", thagaduvin_shown_of(&still, NULL, &cells) == 0 && cells[3] == 0x00C00000 &&
+                              THAGADUVIN_CELL_NOTHING(cells[3]) == 1 && cells[4] == 0x00500041);
+    hold("no row stands still", thagaduvin_shown_of(NULL, &background, &cells) == 0 && cells[0] == 0x00800000);
+}
+
 static void writes(void) {
     struct thagaduvin_mend_answer mended;
     struct thagaduvin_convert_answer converted;
@@ -279,6 +307,7 @@ int main(void) {
     bus_and_mail();
     effects();
     scrolls();
+    lines();
     writes();
     parts_of_a_cell();
     return faults != 0;

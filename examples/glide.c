@@ -1,13 +1,14 @@
 /* A bulletin glides up by two rows, begins a third, turns (the shift is 0 again) and glides down by one row at half the
- * speed; the window with the time stands still. Before each frame the console makes a shift call, and in a shifted frame it
- * draws the row beside the cut.
+ * speed; the window with the time stands still. Before each frame the console makes a shift call; in a shifted frame it
+ * draws the row beside the cut, and all rows that its panel needs.
  *
  *     ./build library
  *     cc -O2 -Iinclude examples/glide.c target/lib/libthagaduvin.a -o target/glide && target/glide
  *
- * prints examples/glide.txt: a line for each frame (shift, phase, hard top, the row beside the cut), and the rows of each
- * frame that is not shifted. `target/glide damaged`: the window has more codes in its row than columns, which frame 0 meets
- * in row 1. `target/glide refused`: M4 scrolls windows, and the shift call of frame 0 is refused. */
+ * prints examples/glide.txt: a line for each frame (shift, phase, hard top, the row beside the cut), the rows of each frame
+ * that is not shifted, and every line of the screen of two that are, one each way. `target/glide damaged`: the window has
+ * more codes in its row than columns, which frame 0 meets in row 1. `target/glide refused`: M4 scrolls windows, and the
+ * shift call of frame 0 is refused. */
 #include "board.h"
 
 /* A screen of 3 rows and 16 columns; rows have 4 scan lines. Memory is all that these blocks need:
@@ -79,21 +80,97 @@ static int shift_call(uint16_t soft) {
     return 0;
 }
 
-/* The frame's own rows are those of the hard top; the shift moves none of their cells. */
-static int draw(struct thagaduvin_state *state, uint32_t (*rows)[THAGADUVIN_CELLS]) {
-    struct thagaduvin_start_answer began = {0};
-    struct thagaduvin_row_answer row = {0};
-    uint8_t status = thagaduvin_start_of(&settings, memory, WORDS, latch, state, &list, &began);
-    if (status != 0) return REFUSAL(status, began);
-    for (int y = 0; y < SHOWN; y++) {
-        status = thagaduvin_row_of(&settings, memory, WORDS, state, &rows[y], &list, &row);
-        if (status != 0) return REFUSAL(status, row);
+/* What a console keeps of a frame for its panel: the frame's rows, those that come in below, and the one above. */
+struct picture {
+    struct thagaduvin_picture_row rows[SHOWN + LINES], above;
+    uint32_t heights[SHOWN + LINES];
+    size_t shown, all, above_count;
+};
+
+/* A row of the frame or one that comes in, on `state`, which goes on: its cells, height and columns, and in a shifted frame
+ * what is behind its window. */
+static uint8_t draw_row(const struct thagaduvin_settings *with, struct thagaduvin_state *state,
+                        struct thagaduvin_picture_row *kept, struct thagaduvin_row_answer *row) {
+    struct thagaduvin_state before = *state;
+    struct thagaduvin_row_answer under = {0};
+    uint8_t status = thagaduvin_row_of(with, memory, WORDS, state, &kept->cells, &list, row);
+    if (status != 0) return status;
+    kept->height = state->scan_lines;
+    kept->first = 1, kept->last = 0, kept->has_behind = 0;
+    if (state->window == 0 || row->row < state->window_top || row->row > state->window_bottom) return 0;
+    kept->first = state->window_left, kept->last = state->window_right;
+    before.window = 0;
+    if (scroll.shift != 0 && thagaduvin_row_of(with, memory, WORDS, &before, &kept->behind, &list, &under) == 0)
+        kept->has_behind = 1;
+    return 0;
+}
+
+/* Rows while lines are left; the status of one that is refused. */
+static uint8_t draw_rows(struct thagaduvin_state *state, struct picture *p, struct thagaduvin_row_answer *row) {
+    while (state->left > 0) {
+        uint8_t status = draw_row(&settings, state, &p->rows[p->all], row);
+        if (status != 0) return status;
+        p->heights[p->all] = p->rows[p->all].height;
+        p->all++;
     }
     return 0;
 }
 
-static void print(int number, uint32_t (*rows)[THAGADUVIN_CELLS], const struct thagaduvin_row_answer *beside,
-                  uint32_t (*cut)[THAGADUVIN_CELLS]) {
+/* The frame's own rows are those of the hard top; the shift moves none of their cells. */
+static int draw(struct thagaduvin_state *state, struct picture *p) {
+    struct thagaduvin_start_answer began = {0};
+    struct thagaduvin_row_answer row = {0};
+    uint8_t status = thagaduvin_start_of(&settings, memory, WORDS, latch, state, &list, &began);
+    if (status != 0) return REFUSAL(status, began);
+    status = draw_rows(state, p, &row);
+    if (status != 0) return REFUSAL(status, row);
+    p->shown = p->all;
+    return 0;
+}
+
+/* Rows that come in: up, on from a copy of the last state with as many lines as the shift; down, row 0 of a start at the soft
+ * top. A refusal there leaves dark lines, and is no part of the frame's. */
+static void draw_incoming(const struct thagaduvin_state *last, uint16_t soft, struct picture *p) {
+    struct thagaduvin_state state = *last;
+    struct thagaduvin_settings above = settings;
+    struct thagaduvin_start_answer began = {0};
+    struct thagaduvin_row_answer row = {0};
+    if (scroll.shift > 0) {
+        state.left = (uint32_t)scroll.shift;
+        draw_rows(&state, p, &row);
+    }
+    if (scroll.shift < 0) {
+        above.top_first = 0, above.top_second = soft;
+        if (thagaduvin_start_of(&above, memory, WORDS, latch, &state, &list, &began) == 0)
+            p->above_count = draw_row(&above, &state, &p->above, &row) == 0;
+    }
+}
+
+/* The lines of the screen: on each the row that glides with its scan line, the row that stands still with its own, and what
+ * is shown, nothing as a blank. */
+static int print_lines(const struct picture *p) {
+    struct thagaduvin_line_answer line = {0};
+    uint32_t cells[THAGADUVIN_CELLS];
+    for (uint32_t y = 0; y < SHOWN * LINES; y += line.lines) {
+        uint8_t status = thagaduvin_line_of(scroll.shift, p->above_count ? p->above.height : 0, p->heights, p->all, p->shown, y,
+                                            &line);
+        if (status != 0 || line.still == 0) return EXIT_FAILURE;
+        const struct thagaduvin_picture_row *background = line.background == 2 ? &p->above : &p->rows[line.background_index];
+        status = thagaduvin_shown_of(&p->rows[line.still_index], line.background == 0 ? NULL : background, &cells);
+        if (status != 0) return EXIT_FAILURE;
+        for (uint32_t n = 0; n < line.lines && y + n < SHOWN * LINES; n++) {
+            static const char *const glides[] = {"none ", "row  ", "above"};
+            printf("  line %2u: %s %u scan line %u, still %u scan line %u |", y + n, glides[line.background],
+                   line.background_index, line.background_scan + n, line.still_index, line.still_scan + n);
+            for (int x = 0; x < COLUMNS; x++)
+                putchar(THAGADUVIN_CELL_NOTHING(cells[x]) ? ' ' : (int)THAGADUVIN_CELL_CODE(cells[x]));
+            puts("|");
+        }
+    }
+    return 0;
+}
+
+static void print(int number, struct picture *p, const struct thagaduvin_row_answer *beside, uint32_t (*cut)[THAGADUVIN_CELLS]) {
     printf("frame %2d: shift %2d phase %u top %02X%04X", number, scroll.shift, scroll.phase, settings.top_first,
            settings.top_second);
     if (beside->lines != 0) {
@@ -104,25 +181,28 @@ static void print(int number, uint32_t (*rows)[THAGADUVIN_CELLS], const struct t
     putchar('\n');
     for (int y = 0; scroll.shift == 0 && y < SHOWN; y++) {
         printf("          |");
-        print_codes(&rows[y], COLUMNS);
+        print_codes(&p->rows[y].cells, COLUMNS);
         puts("|");
     }
 }
 
-/* One frame: shift call, start, rows, the row beside the cut, and the latch for the next frame. */
+/* One frame: shift call, start, rows, the row beside the cut, the latch for the next frame; then the rows that come in. Of two
+ * shifted frames, one each way, the lines of the screen are printed. */
 static int frame(int number, uint16_t soft) {
-    uint32_t rows[SHOWN][THAGADUVIN_CELLS], cut[THAGADUVIN_CELLS];
+    uint32_t cut[THAGADUVIN_CELLS];
+    struct picture p = {0};
     struct thagaduvin_state state;
     struct thagaduvin_row_answer beside = {0};
     struct thagaduvin_latch_answer handed = {0};
-    if (shift_call(soft) || draw(&state, rows)) return EXIT_FAILURE;
+    if (shift_call(soft) || draw(&state, &p)) return EXIT_FAILURE;
     uint8_t status = thagaduvin_beside_of(&settings, memory, WORDS, scroll.shift, 0, soft, latch, &state, &cut, &list, &beside);
     if (status != 0) return REFUSAL(status, beside);
+    draw_incoming(&state, soft, &p);
     status = thagaduvin_latch_of(latch, &state, &handed);
     if (status != 0) return REFUSAL(status, handed);
     latch = (uint16_t)handed.handed_on;
-    print(number, rows, &beside, &cut);
-    return 0;
+    print(number, &p, &beside, &cut);
+    return number == 2 || number == 13 ? print_lines(&p) : 0;
 }
 
 int main(int count, char **arguments) {

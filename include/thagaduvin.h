@@ -17,9 +17,9 @@
  *
  * What a refusal writes. Of a sheet, a start, a row, an apply, a shift, a row beside the cut and a mending step the first
  * three places of the answer, and nothing else; of a conversion the whole answer, and the marks are free; of a reader of
- * text the one place of its answer with 24, nothing with 23; of a writer of text, a bus report and a writer of words
- * nothing. So settings, memory, state, scroll, totals, cells, list and text stay as they were. The calls latch, effect and
- * join refuse nothing.
+ * text the one place of its answer with 24, nothing with 23; of a writer of text, a bus report, a writer of words and shown
+ * nothing. So settings, memory, state, scroll, totals, cells, list and text stay as they were. The calls latch, effect,
+ * join and line refuse nothing.
  *
  * Order. Each call names its refusals in the order in which they are judged; it gives the first.
  *
@@ -28,8 +28,8 @@
  * as no other one writes what is lent, or reads what the call writes, until the call is done. `rt staticlib` makes it in
  * five parts, named below where their calls begin; `./build library` puts them together.
  *
- * Stack of a call, at most, as measured: half a kilobyte for sheet, start, latch, bus, read_mail, write_word, join and
- * apply; one for shift; two for write_mail and mend; three for row, effect, beside and convert. (Where memcpy and memset
+ * Stack of a call, at most, as measured: half a kilobyte for sheet, start, latch, line, shown, bus, read_mail, write_word,
+ * join and apply; one for shift; two for write_mail and mend; three for row, effect, beside and convert. (Where memcpy and memset
  * are bound lazily, the first call of each takes two more.) */
 #ifndef THAGADUVIN_H
 #define THAGADUVIN_H
@@ -166,7 +166,7 @@ struct thagaduvin_scroll {
     uint32_t phase, direction;
 };
 
-/* Every answer but those of a text and of a bus report begins with these three. */
+/* Every answer but those of a text, of a bus report and of a line begins with these three. */
 enum {
     THAGADUVIN_ANSWER_ROW,     /* the row that was drawn or refused, or that an applied effect refuses; 0 where there is none: in
                                   a sheet, start, latch, shift and mending step, and in an accepted apply and conversion */
@@ -245,6 +245,7 @@ enum { THAGADUVIN_CELLS = 132 };
 #define THAGADUVIN_CELL_ATTRIBUTE_CURSOR(cell) ((cell) >> 19 & 1u)  /* attribute bit 14: 1 or 0 */
 #define THAGADUVIN_CELL_SOURCE(cell) ((cell) >> 20 & 3u)            /* one of the three below */
 #define THAGADUVIN_CELL_CURSOR(cell) ((cell) >> 22 & 1u)            /* the absolute cursor: 1 or 0 */
+#define THAGADUVIN_CELL_NOTHING(cell) ((cell) >> 23 & 1u)           /* of thagaduvin_shown: 1 a dark place, else 0 */
 #define THAGADUVIN_CELL_WINDOW(cell) ((cell) >> 24 & 0xFFu)         /* the window's number, where the source is a window */
 
 enum {
@@ -346,6 +347,33 @@ enum {
 struct thagaduvin_shift_answer {
     uint32_t row, address, from;
     uint32_t hard_first, hard_second;
+};
+
+/* The answer of an accepted line: all 0 where no row stands still there. */
+enum {
+    THAGADUVIN_LINE_BACKGROUND,   /* what glides there: 0 nothing, 1 a row of `heights`, 2 the row above */
+    THAGADUVIN_LINE_BACKGROUND_INDEX, /* which row, from 0; 0 for the row above */
+    THAGADUVIN_LINE_BACKGROUND_SCAN, /* which of its scan lines, from 0 */
+    THAGADUVIN_LINE_STILL,     /* 1 a row stands still there, 0 none */
+    THAGADUVIN_LINE_STILL_INDEX, /* which row of the frame, from 0 */
+    THAGADUVIN_LINE_STILL_SCAN, /* which of its scan lines, from 0 */
+    THAGADUVIN_LINE_LINES,     /* how many lines from this one on have these two rows, each a scan line further */
+    THAGADUVIN_LINE_ANSWER     /* 7 numbers */
+};
+
+/* A row as a console keeps it for its panel, for thagaduvin_shown_of. */
+struct thagaduvin_picture_row {
+    uint32_t height;           /* its scan lines: SCAN_LINES of the state after it */
+    uint32_t first, last;      /* the columns of the window on it; first past last where there is none */
+    uint32_t has_behind;       /* 1 where `behind` was drawn, 0 where there is no window, or that row was refused */
+    uint32_t cells[THAGADUVIN_CELLS];
+    uint32_t behind[THAGADUVIN_CELLS]; /* its cells without the window */
+};
+
+struct thagaduvin_line_answer {
+    uint32_t background, background_index, background_scan;
+    uint32_t still, still_index, still_scan;
+    uint32_t lines;
 };
 
 /* The answer of an accepted mending step. */
@@ -521,6 +549,25 @@ uint8_t thagaduvin_beside(const uint32_t *settings, size_t settings_count, const
                           size_t state_count, uint32_t *cells, size_t cells_count, uint32_t *list, size_t list_count,
                           uint32_t *answer, size_t answer_count);
 
+/* A line of the screen while a frame is shifted: which row glides there and which stands still (docs/HOST.md, "Soft
+ * scroll"). `heights` are the scan lines of the frame's accepted rows, `rows` of them, and then of the rows that come in
+ * below, each 1 to 32: SCAN_LINES of the state after the row. `above` is the height of the row that comes in above, at most
+ * 32, 0 where there is none; `shift` is the frame's, -31 to 31. Any `y` is told: the console stops at its last line. It has
+ * no memory and no state, and refuses nothing; 255: another number, more `rows` than heights, more than 4,294,967,295
+ * heights. */
+uint8_t thagaduvin_line(int32_t shift, uint32_t above, const uint32_t *heights, size_t heights_count, size_t rows, uint32_t y,
+                        uint32_t *answer, size_t answer_count);
+
+/* The 132 cells of such a line: in the columns of the still row's window, first to last, that row's cells; elsewhere those
+ * of the row that glides, and in the columns of its window the cells that are behind it. A slice of 0 cells is no row, and
+ * a first column past the last is no window. What there is nothing to show of has bit 23 (THAGADUVIN_CELL_NOTHING) and all
+ * else 0; bit 22, the absolute cursor, is the still row's. Refusal: 1, where `cells` has not 132, or another slice neither
+ * 132 nor 0. */
+uint8_t thagaduvin_shown(const uint32_t *still, size_t still_count, uint32_t still_first, uint32_t still_last,
+                         const uint32_t *background, size_t background_count, uint32_t background_first,
+                         uint32_t background_last, const uint32_t *behind, size_t behind_count, uint32_t *cells,
+                         size_t cells_count);
+
 /* Mending: part thagaduvin_mend. */
 
 /* One step of mending a damaged list: a frame is drawn from `latch`, and at a refusal 7 to 13 the pointer to blame for it
@@ -642,6 +689,22 @@ THAGADUVIN_INLINE uint8_t thagaduvin_beside_of(const struct thagaduvin_settings 
                              THAGADUVIN_ROW_ANSWER);
 }
 
+THAGADUVIN_INLINE uint8_t thagaduvin_line_of(int32_t shift, uint32_t above, const uint32_t *heights, size_t heights_count,
+                                             size_t rows, uint32_t y, struct thagaduvin_line_answer *answer) {
+    return thagaduvin_line(shift, above, heights, heights_count, rows, y, &answer->background, THAGADUVIN_LINE_ANSWER);
+}
+
+/* Null stands for no row. */
+THAGADUVIN_INLINE uint8_t thagaduvin_shown_of(const struct thagaduvin_picture_row *still,
+                                              const struct thagaduvin_picture_row *background,
+                                              uint32_t (*cells)[THAGADUVIN_CELLS]) {
+    static const struct thagaduvin_picture_row none = {0, 1, 0, 0, {0}, {0}};
+    const struct thagaduvin_picture_row *s = still ? still : &none, *b = background ? background : &none;
+    return thagaduvin_shown(s->cells, still ? THAGADUVIN_CELLS : 0, s->first, s->last, b->cells,
+                            background ? THAGADUVIN_CELLS : 0, b->first, b->last, b->behind,
+                            b->has_behind ? THAGADUVIN_CELLS : 0, *cells, THAGADUVIN_CELLS);
+}
+
 THAGADUVIN_INLINE uint8_t thagaduvin_mend_of(struct thagaduvin_settings *settings, uint16_t *memory, size_t memory_count,
                                              uint16_t latch, struct thagaduvin_mend_answer *answer) {
     return thagaduvin_mend(&settings->linear, THAGADUVIN_SETTINGS, memory, memory_count, latch, &answer->row,
@@ -710,6 +773,11 @@ THAGADUVIN_HAS(latch_answer, uint32_t, LATCH_ANSWER) THAGADUVIN_ANSWERS(latch_an
 THAGADUVIN_AT(latch_answer, handed_on, HANDED_ON)
 THAGADUVIN_HAS(shift_answer, uint32_t, SHIFT_ANSWER) THAGADUVIN_ANSWERS(shift_answer)
 THAGADUVIN_AT(shift_answer, hard_first, HARD_FIRST) THAGADUVIN_AT(shift_answer, hard_second, HARD_SECOND)
+THAGADUVIN_HAS(line_answer, uint32_t, LINE_ANSWER) THAGADUVIN_AT(line_answer, background, LINE_BACKGROUND)
+THAGADUVIN_AT(line_answer, background_index, LINE_BACKGROUND_INDEX)
+THAGADUVIN_AT(line_answer, background_scan, LINE_BACKGROUND_SCAN)
+THAGADUVIN_AT(line_answer, still, LINE_STILL) THAGADUVIN_AT(line_answer, still_index, LINE_STILL_INDEX)
+THAGADUVIN_AT(line_answer, still_scan, LINE_STILL_SCAN) THAGADUVIN_AT(line_answer, lines, LINE_LINES)
 THAGADUVIN_HAS(mend_answer, uint32_t, MEND_ANSWER) THAGADUVIN_ANSWERS(mend_answer)
 THAGADUVIN_AT(mend_answer, changed, CHANGED) THAGADUVIN_AT(mend_answer, changed_address, CHANGED_ADDRESS)
 THAGADUVIN_AT(mend_answer, changed_first, CHANGED_FIRST) THAGADUVIN_AT(mend_answer, changed_second, CHANGED_SECOND)

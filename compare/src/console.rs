@@ -36,7 +36,7 @@ header!(console);
 /// What answers each call.
 mod calls {
     pub use compare::host::{
-        apply, convert, effect, join, latch, mend, read_mail, row, sheet, start, write_mail,
+        apply, convert, effect, join, latch, line, mend, read_mail, row, sheet, start, write_mail,
     };
 
     use compare::bus::Used;
@@ -74,6 +74,22 @@ mod calls {
             state,
         };
         host::beside(settings, memory, &from, cells, list, answer)
+    }
+
+    #[allow(clippy::too_many_arguments)]
+    pub fn flat_shown(
+        still: &[u32],
+        still_first: u32,
+        still_last: u32,
+        gliding: &[u32],
+        gliding_first: u32,
+        gliding_last: u32,
+        behind: &[u32],
+        cells: &mut [u32],
+    ) -> u8 {
+        let still = host::layer(still, still_first, still_last);
+        let gliding = host::layer(gliding, gliding_first, gliding_last);
+        host::shown(&still, &gliding, behind, cells)
     }
 
     pub fn flat_write_word(

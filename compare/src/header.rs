@@ -24,6 +24,11 @@ macro_rules! header {
                 settings: &[u32], memory: &[u16], shift: i32, soft_first: u16, soft_second: u16, latch: u16, state: &[u32],
                 cells: &mut [u32], list: &mut [u32], answer: &mut [u32]
             );
+            line thagaduvin_line(shift: i32, above: u32, heights: &[u32], rows: usize, y: u32, answer: &mut [u32]);
+            flat_shown thagaduvin_shown(
+                still: &[u32], still_first: u32, still_last: u32, gliding: &[u32], gliding_first: u32, gliding_last: u32,
+                behind: &[u32], cells: &mut [u32]
+            );
             flat_write_word thagaduvin_write_word(
                 memory: &mut [u16], own_first: u32, own_last: u32, other_first: u32, other_last: u32, address: u32, word: u16
             );

@@ -8,9 +8,10 @@ use crate::convert;
 use crate::desks::{self, Spans};
 use crate::mail;
 use crate::mend;
+use crate::picture::{self, Kind, Layer, Scan, Strips};
 use crate::rules::{
     self, Edition, Effect, Fields, Interlace, Part, Pointer, Refusal, Row, Settings, Sheet, State,
-    Window,
+    Window, CELLS,
 };
 use crate::scroll::{self, Scroll};
 pub use crate::trail::PLACES;
@@ -41,6 +42,7 @@ pub const APPLY_ANSWER: usize = PREFIX + 1;
 pub const LATCH_ANSWER: usize = PREFIX + 1;
 pub const SCROLL: usize = 3;
 pub const SHIFT_ANSWER: usize = PREFIX + 2;
+pub const LINE_ANSWER: usize = 7;
 pub const TOTALS: usize = 7;
 pub const BUS_ANSWER: usize = 2;
 pub const MAIL_ANSWER: usize = 1;
@@ -566,6 +568,74 @@ pub fn beside(
         }
         Err(refusal) => refuse(refusal, answer),
     }
+}
+
+/// A line of a shifted frame: what glides there and what stands still, each with its index and scan line, and for how many
+/// lines.
+#[inline(never)]
+pub fn line(
+    shift: i32,
+    above: u32,
+    heights: &[u32],
+    rows: usize,
+    y: u32,
+    answer: &mut [u32],
+) -> u8 {
+    let Ok(answer) = <&mut [u32; LINE_ANSWER]>::try_from(answer) else {
+        return UNFIT;
+    };
+    let high = heights.iter().any(|height| !(1..=32).contains(height));
+    if rows > heights.len() || high || above > 32 || !(-31..=31).contains(&shift) {
+        return UNFIT;
+    }
+    let (frame, below) = heights.split_at(rows);
+    // Down, none comes in below.
+    let below = if shift < 0 { &[] } else { below };
+    let above: &[u32] = if shift < 0 { &[above] } else { &[] };
+    let strips = Strips::new(shift, above, frame, below);
+    let rows_of = |y: usize| {
+        let (still, gliding) = strips.line(y);
+        let row = |scan: Option<Scan>| scan.map(|scan| (scan.kind, scan.index));
+        (row(still), row(gliding))
+    };
+    *answer = [0; LINE_ANSWER];
+    let (Some(still), gliding) = strips.line(y as usize) else {
+        return 0;
+    };
+    let same = (y as usize..).take_while(|&z| rows_of(z) == rows_of(y as usize));
+    let glides = gliding.map_or([0; 3], |scan| match scan.kind {
+        Kind::Frame => [1, scan.index as u32, scan.line],
+        Kind::Below => [1, (rows + scan.index) as u32, scan.line],
+        Kind::Above => [2, 0, scan.line],
+    });
+    answer[..3].copy_from_slice(&glides);
+    answer[3..].copy_from_slice(&[1, still.index as u32, still.line, same.count() as u32]);
+    0
+}
+
+/// A row that a line shows, by what a call is lent.
+pub fn layer(cells: &[u32], first: u32, last: u32) -> Layer<'_> {
+    Layer {
+        cells,
+        columns: (first <= last).then_some((first, last)),
+    }
+}
+
+/// The columns of a row's window as a call is lent them; the first is past the last where there is none.
+pub fn window_columns(layer: &Layer) -> [u32; 2] {
+    layer.columns.map_or([1, 0], |(first, last)| [first, last])
+}
+
+/// The cells of a line.
+#[inline(never)]
+pub fn shown(still: &Layer, gliding: &Layer, behind: &[u32], cells: &mut [u32]) -> u8 {
+    let sized = |cells: &[u32]| cells.is_empty() || cells.len() == CELLS;
+    let fits = sized(still.cells) && sized(gliding.cells) && sized(behind) && cells.len() == CELLS;
+    if !fits {
+        return 1;
+    }
+    cells.copy_from_slice(&picture::shown(still, gliding, behind));
+    0
 }
 
 /// A desk's write of a word.

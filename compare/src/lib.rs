@@ -1,5 +1,5 @@
 //! A second implementation of the display rules: timing, the walk over the blocks,
-//! row effects, soft scroll, two desks on one memory, the converter, mending, the bus report, text for mail and the draw
+//! row effects, soft scroll, the picture of a shifted frame, two desks on one memory, the converter, mending, the bus report, text for mail and the draw
 //! program, with a generator of test cases.
 
 pub mod bus;
@@ -8,12 +8,15 @@ pub mod converted;
 pub mod desks;
 pub mod folder;
 pub mod generate;
+pub mod glide;
+pub mod glides;
 mod header;
 pub mod host;
 pub mod library;
 pub mod mail;
 pub mod mend;
 pub mod mended;
+pub mod picture;
 pub mod plain;
 pub mod rules;
 pub mod script;
@@ -27,6 +30,8 @@ mod bus_tests;
 mod convert_tests;
 #[cfg(test)]
 mod desks_tests;
+#[cfg(test)]
+mod glide_tests;
 #[cfg(test)]
 mod host_tests;
 #[cfg(test)]

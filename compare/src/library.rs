@@ -4,7 +4,8 @@
 use crate::bus::Used;
 use crate::desks::Spans;
 use crate::header;
-use crate::host::Beside;
+use crate::host::{window_columns, Beside};
+use crate::picture::Layer;
 
 /// A function for each call, which declares it and makes it. What the function is lent is gone through one by one: on the left
 /// what C declares for it, on the right what is handed over.
@@ -67,6 +68,22 @@ pub fn beside(
     } = *from;
     flat_beside(
         settings, memory, shift, first, second, latch, state, cells, list, answer,
+    )
+}
+
+#[inline]
+pub fn shown(still: &Layer, gliding: &Layer, behind: &[u32], cells: &mut [u32]) -> u8 {
+    let [still_first, still_last] = window_columns(still);
+    let [first, last] = window_columns(gliding);
+    flat_shown(
+        still.cells,
+        still_first,
+        still_last,
+        gliding.cells,
+        first,
+        last,
+        behind,
+        cells,
     )
 }
 

@@ -50,35 +50,52 @@ pub struct Script {
 
 /// Reads a script up to its draw. A refused script gives the offset to print.
 pub fn parse(input: &[u8]) -> Result<Script, usize> {
-    let mut settings = UNSET;
-    let mut registers = [0; REGISTERS];
-    let mut memory = vec![0; MEMORY];
-    let mut at = 0;
-    loop {
-        let Some((&kind, after)) = input[at..].split_first() else {
-            return Err(input.len());
-        };
-        let size = match kind {
-            0 => {
-                return Ok(Script {
-                    settings,
-                    registers,
-                    memory,
-                })
+    let mut script = Script::new();
+    script.read(input, 0)?;
+    Ok(script)
+}
+
+impl Script {
+    /// What there is before any record.
+    pub fn new() -> Script {
+        Script {
+            settings: UNSET,
+            registers: [0; REGISTERS],
+            memory: vec![0; MEMORY],
+        }
+    }
+
+    /// Reads records from an offset on up to a draw, and gives the offset after it; or the offset to print.
+    pub fn read(&mut self, input: &[u8], from: usize) -> Result<usize, usize> {
+        let mut at = from;
+        loop {
+            let Some((&kind, after)) = input[at..].split_first() else {
+                return Err(input.len());
+            };
+            let size = match kind {
+                0 => return Ok(at + 1),
+                1 => 3,
+                2 => 5,
+                3 => 1,
+                _ => return Err(at),
+            };
+            let Some(body) = after.get(..size) else {
+                return Err(input.len());
+            };
+            if !self.take(body) {
+                return Err(at);
             }
-            1 => 3,
-            2 => 5,
-            3 => 1,
-            _ => return Err(at),
-        };
-        let Some(body) = after.get(..size) else {
-            return Err(input.len());
-        };
-        let accepted = match *body {
+            at += 1 + size;
+        }
+    }
+
+    /// Takes a record's body; false where it is refused.
+    fn take(&mut self, body: &[u8]) -> bool {
+        match *body {
             [register, high, low] => {
                 let value = u16::from_be_bytes([high, low]);
-                set_register(&mut settings, register, value);
-                match registers.get_mut(usize::from(register)) {
+                set_register(&mut self.settings, register, value);
+                match self.registers.get_mut(usize::from(register)) {
                     Some(place) => {
                         *place = value;
                         true
@@ -88,7 +105,7 @@ pub fn parse(input: &[u8]) -> Result<Script, usize> {
             }
             [a2, a1, a0, high, low] => {
                 let address = u32::from_be_bytes([0, a2, a1, a0]);
-                match memory.get_mut(address as usize / 2) {
+                match self.memory.get_mut(address as usize / 2) {
                     Some(word) if address & 1 == 0 => {
                         *word = u16::from_be_bytes([high, low]);
                         true
@@ -96,13 +113,9 @@ pub fn parse(input: &[u8]) -> Result<Script, usize> {
                     _ => false,
                 }
             }
-            [switches] => set_switches(&mut settings, switches),
+            [switches] => set_switches(&mut self.settings, switches),
             _ => false,
-        };
-        if !accepted {
-            return Err(at);
         }
-        at += 1 + size;
     }
 }
 
@@ -322,7 +335,7 @@ fn unless_refused(
     out
 }
 
-fn put_refusal(out: &mut Vec<u8>, refusal: &Refusal) {
+pub fn put_refusal(out: &mut Vec<u8>, refusal: &Refusal) {
     let Refusal {
         number,
         row,
@@ -344,6 +357,11 @@ fn put_row(out: &mut Vec<u8>, row: &Row, shown: &[u32]) {
             row.row, row.lines, row.attributes, row.words
         ),
     );
+    put_cells(out, shown);
+}
+
+/// A line of cells.
+pub fn put_cells(out: &mut Vec<u8>, shown: &[u32]) {
     for (column, cell) in shown.iter().enumerate() {
         if column > 0 {
             out.push(b' ');
@@ -357,7 +375,7 @@ fn put_end(out: &mut Vec<u8>, rows: usize, words: usize) {
     line(out, format_args!("end rows {rows} words {words}"));
 }
 
-fn line(out: &mut Vec<u8>, text: std::fmt::Arguments) {
+pub fn line(out: &mut Vec<u8>, text: std::fmt::Arguments) {
     // Writing to a vector does not fail.
     let _ = writeln!(out, "{text}");
 }

@@ -4,3 +4,4 @@ pub mod FillLaws
 pub mod FinishLaws
 pub mod SideLaws
 pub mod CellSources
+pub mod CellColumns

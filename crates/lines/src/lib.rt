@@ -95,8 +95,8 @@ fn put_row(out: &mut [u8; 2048], row: DrawnRow) -> usize
 }
 
 // The first `columns` cells as a line, after the first `start` bytes.
-fn put_cells(out: &mut [u8], start: usize, cells: &[u32], columns: usize) -> usize
-    requires { ⌜ (columns ≤ length (now cells)) × (columns ≤ 132) × (length (now out) ≡ 2048) × (start ≤ 88) ⌝ }
+pub fn put_cells(out: &mut [u8], start: usize, cells: &[u32], columns: usize) -> usize
+    requires { ⌜ (columns ≤ length (now cells)) × (columns ≤ 132) × (length (now out) ≡ 2048) × (start ≤ 800) ⌝ }
     ensures { λ r. ⌜ Line (take start (now (out .entry)) ++ cellLine (take columns (now (cells .entry)))) r (now (out .exit)) ⌝ }
 {
     if columns == 0 {
@@ -178,7 +178,7 @@ fn digit(d: u64) -> u8
 }
 
 // How many of a row's 132 cells are shown.
-fn cells_shown(s: Settings) -> usize
+pub fn cells_shown(s: Settings) -> usize
     ensures { λ r. ⌜ r ≡ min (shownColumns s) 132 ⌝ }
 {
     let columns = settings::shown_columns(s) as usize;

@@ -50,7 +50,7 @@ from-turned : (up : Bool) (s : Scroll) → (s .direction ≡ directionOf up → 
 unfolding fromLast
 from-turned up s k = rw (ne-eqb (s .direction) (directionOf up) k)
 
-from-same : (up : Bool) (g : Offset) (top : PointerWords) → fromLast up (shifted up g top .scroll) ≡ g
+pub from-same : (up : Bool) (g : Offset) (top : PointerWords) → fromLast up (shifted up g top .scroll) ≡ g
 unfolding fromLast
 from-same up g top = rw (eq-eqb (directionOf up) (directionOf up) refl, lines-back up (g .lines))
 

@@ -39,7 +39,7 @@ use Rattle.scroll.proofs.SignedLaws.{same}
 use Rattle.scroll.proofs.ShiftLaws.{in-range, from-last-small, rate-bounds, row-read, out-of-range, top-read, settings-refused, settings-passed}
 
 -- ---- the scan lines of a row are 1 to 32 ----
-abbrev Lines : ℕ → Type 0
+abbrev pub Lines : ℕ → Type 0
 Lines n = (1 ≤ n) × (n ≤ 32)
 
 format-reads : (linear : Bool) (p : Pointer) (t : RowFormat) → Lines (t .lines) → Reads (λ u. Lines (u .lines)) 3 (redefined linear p t)
@@ -47,7 +47,7 @@ unfolding redefined formatOf
 format-reads linear p t h =
     if-reads (null p) (λ _. dones h) λ _. bind {n = 3} {k = 0} (lit≤ tt) (words-read linear 3 p) λ _ _. dones (omega arith)
 
-block-reads : (linear : Bool) (p : Pointer) (t : RowFormat) → Lines (t .lines) → Reads (λ g. Lines (g .format .lines)) 83 (backgroundBlock linear p t)
+pub block-reads : (linear : Bool) (p : Pointer) (t : RowFormat) → Lines (t .lines) → Reads (λ g. Lines (g .format .lines)) 83 (backgroundBlock linear p t)
 unfolding backgroundBlock
 block-reads linear p t h =
     bind {n = 80} {k = 3} (lit≤ tt) (row-block-reads linear p) λ b _.
@@ -57,7 +57,7 @@ first-reads : (linear : Bool) (m : MainBlock) → Lines (m .lines) → Reads Lin
 unfolding firstLines
 first-reads linear m h = bind {n = 83} {k = 0} (lit≤ tt) (block-reads linear (m .rows) _ h) λ _ k. dones k
 
-edge-reads : (linear : Bool) (soft : PointerWords) (hard : MainBlock) → Lines (hard .lines) → Reads Lines 90 (edgeLines linear soft hard)
+pub edge-reads : (linear : Bool) (soft : PointerWords) (hard : MainBlock) → Lines (hard .lines) → Reads Lines 90 (edgeLines linear soft hard)
 unfolding edgeLines
 edge-reads linear soft hard h =
     if-reads (upward hard) (λ _. weaken (lit≤ tt) (first-reads linear hard h)) λ _.

@@ -1,7 +1,7 @@
 -- Each call's status: 255 for slices that are none, else what its answer tells.
 use mathlib.Core.Path.{_≡_, refl}
 use mathlib.Core.Bool.{true, _&&_}
-use mathlib.Core.List.{List, []}
+use mathlib.Core.List.{List, [], _∷_}
 use Prim.Native.Nat.{ℕ}
 use native.Mathlib.Omega.{arith}
 use lib.IntN.{ℤ, pos}
@@ -43,7 +43,10 @@ use Rattle.answers.specs.Changing.{Left}
 use Rattle.scroll.specs.Scroll.{shiftCall}
 use Rattle.listed_beside.specs.ListedBeside.{besideListed}
 use Rattle.shifts.specs.AfterShift.{scrollOf, BesideDone, afterBeside, noState, belowState, besideFrom}
+use Rattle.panel.specs.Shown.{Layer, ShowCalled, sized, showCall}
+use Rattle.line_numbers.specs.LineNumbers.{lineAsked}
 use Rattle.thagaduvin_scroll.specs.ScrollCalls.{shiftFrom, hostShift, besideWith, hostBeside}
+use Rattle.thagaduvin_scroll.specs.PanelCalls.{hostLine, shownAnswered, hostShown}
 use Rattle.blame.proofs.Frames.{Registers}
 use Rattle.mending.specs.Mending.{mendStep}
 use Rattle.thagaduvin_mend.specs.MendCalls.{mendWith, hostMend}
@@ -190,6 +193,17 @@ beside-status settings m shift soft latch state cells list answer =
     by (Settings-in.Fit σ) = if-cases Right (ltZ (pos 0) shift) (λ _. from σ (stateIn state)) (λ _. of σ noState)
     by Settings-in.Unfit = refl
 
+line-status : (shift : ℤ) (above : ℕ) (heights : List ℕ) (rows y : ℕ) (answer : List ℕ) → Status [] (hostLine shift above heights rows y answer .status)
+unfolding hostLine
+line-status shift above heights rows y answer =
+    if-cases (λ (x : Answered). Status [] (x .status)) (eqb (length answer) 7 && lineAsked shift above heights rows) (λ _. refl) (λ _. refl)
+
+shown-status : (still background : Layer) (behind cells : List ℕ) → Status (1 ∷ []) (hostShown still background behind cells .status)
+unfolding hostShown showCall
+shown-status still background behind cells =
+    if-cases (λ (x : ShowCalled). Status (1 ∷ []) (shownAnswered x .status))
+    (sized (still .cells) && sized (background .cells) && sized behind && eqb (length cells) 132) (λ _. refl) (λ _. refl)
+
 -- TOP's and TOW's words are read as 16 bits
 registers : (xs : List ℕ) → Registers (settingsAt xs)
 unfolding settingsAt
@@ -234,6 +248,8 @@ statuses = record {
   writeWord = write-status;
   shift = shift-status;
   beside = beside-status;
+  line = line-status;
+  shown = shown-status;
   mend = mend-status;
   convert = convert-status;
 }

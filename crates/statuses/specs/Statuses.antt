@@ -1,4 +1,4 @@
--- The status of each of a console's fifteen calls: 0 where it is accepted, 255 where it is none, else a number of document 01's and 02's that the call can be
+-- The status of each of a console's seventeen calls: 0 where it is accepted, 255 where it is none, else a number of document 01's and 02's that the call can be
 -- refused with.
 use Prim.Native.Nat.{ℕ, _<_}
 use mathlib.Core.Path.{_≡_}
@@ -14,7 +14,9 @@ use Rattle.thagaduvin_effect.specs.EffectCalls.{hostEffect, hostJoin, hostApply
 use Rattle.thagaduvin.specs.MailCalls.{hostWriteMail, hostReadMail}
 use Rattle.thagaduvin.specs.BusCalls.{hostBus}
 use Rattle.thagaduvin.specs.WriterCalls.{hostWriteWord}
+use Rattle.panel.specs.Shown.{Layer}
 use Rattle.thagaduvin_scroll.specs.ScrollCalls.{hostShift, hostBeside}
+use Rattle.thagaduvin_scroll.specs.PanelCalls.{hostLine, hostShown}
 use Rattle.thagaduvin_mend.specs.MendCalls.{hostMend}
 use Rattle.thagaduvin_convert.specs.ConvertCalls.{hostConvert}
 use Rattle.refusals.specs.Refusals.{sheetNumbers, startListedNumbers, rowListedNumbers, effectNumbers, shiftNumbers, besideNumbers, mendNumbers, convertNumbers, writerNumbers, busNumbers, writeMailNumbers, readMailNumbers, has}
@@ -41,6 +43,9 @@ pub record Statuses : Type 0 where
   pub shift : (settings m : List ℕ) (soft : PointerWords) (scroll answer : List ℕ) → Status shiftNumbers (hostShift settings m soft scroll answer .status)
   pub beside : (settings m : List ℕ) (shift : ℤ) (soft : PointerWords) (latch : ℕ) (state cells list answer : List ℕ)
       → Status besideNumbers (hostBeside settings m shift soft latch state cells list answer .status)
+  pub line : (shift : ℤ) (above : ℕ) (heights : List ℕ) (rows y : ℕ) (answer : List ℕ) → Status [] (hostLine shift above heights rows y answer .status)
+  -- counts of cells are judged by a row's 1
+  pub shown : (still background : Layer) (behind cells : List ℕ) → Status (1 ∷ []) (hostShown still background behind cells .status)
   -- of 16-bit words, which lent memory has
   pub mend : (settings m : List ℕ) (latch : ℕ) (answer : List ℕ) → ((i : ℕ) → getD m i 0 < 65536)
       → Status mendNumbers (hostMend settings m latch answer .status)

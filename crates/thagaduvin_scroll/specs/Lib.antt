@@ -1,1 +1,2 @@
 pub mod ScrollCalls
+pub mod PanelCalls

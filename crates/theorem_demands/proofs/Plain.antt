@@ -1,9 +1,11 @@
--- The calls that read no memory: the sheet, the latch, effects joined and applied, texts, the bus report, the writer call.
+-- The calls that read no memory: the sheet, the latch, effects joined and applied, texts, the bus report, the writer call, the lines of the
+-- panel and their cells.
 use mathlib.Core.Path.{_≡_, refl}
 use mathlib.Core.Bool.{Bool, true, false, _&&_}
 use mathlib.Core.List.{List, [], _∷_}
 use Prim.Native.Nat.{ℕ, _≤_}
 use native.Mathlib.Omega.{arith}
+use lib.IntN.{ℤ}
 use lib.ListN.{length}
 use lib.Dec.{eqb, leb, ltb}
 use Rattle.memory.specs.Word.{if_then_else_, at}
@@ -45,6 +47,9 @@ use Rattle.thagaduvin.specs.MailCalls.{writeFrom, hostWriteMail, hostReadMail}
 use Rattle.thagaduvin.specs.BusCalls.{hostBus}
 use Rattle.thagaduvin.specs.WriterCalls as Word
 use Rattle.thagaduvin_effect.specs.EffectCalls.{joinFrom, joinWith, hostJoin, applyFrom, hostApply}
+use Rattle.panel.specs.Shown.{Layer, ShowCalled, sized, showCall}
+use Rattle.line_numbers.specs.LineNumbers.{lineAsked}
+use Rattle.thagaduvin_scroll.specs.PanelCalls.{hostLine, shownAnswered, hostShown}
 use Rattle.refusals.specs.Refusals as Refusals
 use Rattle.statuses.proofs.Read.{Listed, BothListed, effect-listed}
 use Rattle.theorem_demands.specs.Demands.{ofAnswer, ofText, ofBus, ofWord, Kept, Tells, Silent}
@@ -199,3 +204,18 @@ write-silent m own other address word =
   where
     Right : Wrote → Type 0
     Right x = Silent Refusals.writerNumbers (m ∷ []) [] (ofWord (Word.afterWrite x))
+
+-- ---- the lines of the panel, and their cells ----
+
+pub line-silent : (shift : ℤ) (above : ℕ) (heights : List ℕ) (rows y : ℕ) (answer : List ℕ)
+    → Silent [] [] answer (ofAnswer (hostLine shift above heights rows y answer))
+unfolding hostLine
+line-silent shift above heights rows y answer =
+    if-cases (λ (x : Answered). Silent [] [] answer (ofAnswer x)) (eqb (length answer) 7 && lineAsked shift above heights rows)
+    (λ _. accepted-silent _ _) (λ _. none-silent)
+
+pub shown-silent : (still background : Layer) (behind cells : List ℕ) → Silent (1 ∷ []) [] cells (ofAnswer (hostShown still background behind cells))
+unfolding hostShown showCall
+shown-silent still background behind cells =
+    if-cases (λ (x : ShowCalled). Silent (1 ∷ []) [] cells (ofAnswer (shownAnswered x)))
+    (sized (still .cells) && sized (background .cells) && sized behind && eqb (length cells) 132) (λ _. accepted-silent _ _) (λ _. refused-silent refl 1 refl)

@@ -3,7 +3,7 @@ use Rattle.calls_alone.proofs.AloneCalls.{demand-3-calls}
 use Rattle.theorem_demands.specs.Demands.{Demand1, Demand2, Demand3, Demands}
 use Rattle.theorem_demands.proofs.Reading.{start-reads, row-reads, beside-reads, shift-reads, effect-reads}
 use Rattle.theorem_demands.proofs.Changing.{mend-reads, convert-reads}
-use Rattle.theorem_demands.proofs.Plain.{sheet-tells, latch-kept, join-kept, apply-tells, write-mail-silent, read-mail-kept, bus-silent, write-silent}
+use Rattle.theorem_demands.proofs.Plain.{sheet-tells, latch-kept, join-kept, apply-tells, write-mail-silent, read-mail-kept, bus-silent, write-silent, line-silent, shown-silent}
 use Rattle.theorem_demands.proofs.Drawn.{row-by-rules, sheet-by-rules}
 use Rattle.theorem_demands.proofs.Joins.{grouping, empty-first, empty-last}
 
@@ -18,6 +18,8 @@ demand-1 = record {
   apply = apply-tells;
   shift = λ settings m soft scroll answer. shift-reads settings m soft scroll answer .tells;
   beside = λ settings m shift soft latch state cells list answer. beside-reads settings m shift soft latch state cells list answer .tells;
+  line = line-silent;
+  shown = shown-silent;
   mend = λ settings m latch answer w. mend-reads settings m latch answer w .tells;
   convert = λ settings m marks latch answer. convert-reads settings m marks latch answer .stays;
   writeMail = write-mail-silent;

@@ -1,4 +1,4 @@
--- The user's three demands, in the user's words and order, of the fifteen calls in C that a console runs. Each call is a definition over the
+-- The user's three demands, in the user's words and order, of the seventeen calls in C that a console runs. Each call is a definition over the
 -- slices of numbers that it is lent, of any counts and with any numbers, and the exported function equals it. A slice that the definition does
 -- not give back is lent to be read, and stays.
 use Prim.Native.Nat.{ℕ, _/_, _<_, _≤_}
@@ -38,7 +38,9 @@ use Rattle.thagaduvin.specs.MailCalls.{hostWriteMail, hostReadMail}
 use Rattle.thagaduvin.specs.BusCalls.{hostBus}
 use Rattle.thagaduvin.specs.WriterCalls.{WordWritten, hostWriteWord}
 use Rattle.thagaduvin_effect.specs.EffectCalls.{hostEffect, hostJoin, hostApply}
+use Rattle.panel.specs.Shown.{Layer}
 use Rattle.thagaduvin_scroll.specs.ScrollCalls.{hostShift, hostBeside}
+use Rattle.thagaduvin_scroll.specs.PanelCalls.{hostLine, hostShown}
 use Rattle.thagaduvin_mend.specs.MendCalls.{hostMend}
 use Rattle.thagaduvin_convert.specs.ConvertCalls.{hostConvert}
 use Rattle.refusals.specs.Refusals as Refusals
@@ -122,7 +124,7 @@ abbrev pub Inside : List ℕ → (words : ℕ) → (list : List ℕ) → Type 0
 Inside m words list = (i : ℕ) → i < words → at list i / 2 < length m
 
 pub record Demand1 : Type 0 where
-  -- the fifteen calls
+  -- the seventeen calls
   pub sheet : (settings answer : List ℕ) → Tells 0 Refusals.sheetNumbers [] answer (ofAnswer (hostSheet settings answer))
   pub start : (settings m : List ℕ) (latch : ℕ) (state list answer : List ℕ)
       → Tells 0 Refusals.startListedNumbers (state ∷ list ∷ []) answer (ofStart (hostStart settings m latch state list answer))
@@ -140,6 +142,10 @@ pub record Demand1 : Type 0 where
   pub beside : (settings m : List ℕ) (shift : ℤ) (soft : PointerWords) (latch : ℕ) (state cells list answer : List ℕ)
       → Tells (if ltZ (pos 0) shift then at state 1 else 0) Refusals.besideNumbers (cells ∷ list ∷ []) answer
       (ofBeside (hostBeside settings m shift soft latch state cells list answer))
+  -- a line and its cells read no memory: a line is accepted or 255, its cells accepted or 1
+  pub line : (shift : ℤ) (above : ℕ) (heights : List ℕ) (rows y : ℕ) (answer : List ℕ)
+      → Silent [] [] answer (ofAnswer (hostLine shift above heights rows y answer))
+  pub shown : (still background : Layer) (behind cells : List ℕ) → Silent (1 ∷ []) [] cells (ofAnswer (hostShown still background behind cells))
   -- on a memory of 16-bit words, which a lent one has
   pub mend : (settings m : List ℕ) (latch : ℕ) (answer : List ℕ) → Words m
       → Tells 0 Refusals.mendNumbers (settings ∷ m ∷ []) answer (ofChange (hostMend settings m latch answer))

@@ -4,9 +4,11 @@ use crate::convert::Converted;
 use crate::desks::{Desks, Shared, Whole};
 use crate::lent::{Differs, Lent, List, Marks};
 use crate::mend::Mended;
+use crate::panel::Pictures;
 use compare::bus::Used;
 use compare::desks::Spans;
 use compare::host::{Beside, PART, PREFIX, ROW_WORDS};
+use compare::picture::Layer;
 use compare::{host, library};
 use std::fmt::{self, Debug, Formatter};
 
@@ -16,7 +18,7 @@ pub struct Difference(pub String);
 pub type Checked<T> = Result<T, Difference>;
 
 /// The lines of the table.
-const LINES: [&str; 18] = [
+const LINES: [&str; 20] = [
     "sheet",
     "start",
     "row",
@@ -34,6 +36,8 @@ const LINES: [&str; 18] = [
     "writer of a word",
     "mending",
     "converter",
+    "line",
+    "shown",
     "all",
 ];
 
@@ -56,6 +60,7 @@ pub struct Tally {
     second_refused: u64,
     pub in_turn: InTurn,
     pub scrolls: Scrolls,
+    pub pictures: Pictures,
     pub desks: Desks,
     pub mended: Mended,
     pub converted: Converted,
@@ -211,6 +216,7 @@ impl Tally {
         );
         self.in_turn.print();
         self.scrolls.print();
+        self.pictures.print();
         self.desks.print();
         self.mended.print();
         self.converted.print();
@@ -495,6 +501,44 @@ impl Calls {
         self.tally.count_call(10, ours);
         self.tally.scrolls.count_beside(from.shift, ours);
         compare([ours, theirs], &[state, cells, list, answer], &given)
+    }
+
+    pub fn line(
+        &mut self,
+        shift: i32,
+        above: u32,
+        heights: &[u32],
+        rows: usize,
+        y: u32,
+        answers: usize,
+    ) -> Checked<u8> {
+        let answer = &mut self.answer;
+        answer.mark(answers);
+        let statuses = [
+            host::line(shift, above, heights, rows, y, answer.ours()),
+            library::line(shift, above, heights, rows, y, answer.theirs()),
+        ];
+        self.tally.count_call(17, statuses[0]);
+        let given = ("line", shift, above, heights, rows, y, answers);
+        compare(statuses, &[answer], &given)
+    }
+
+    pub fn shown(
+        &mut self,
+        still: &Layer,
+        gliding: &Layer,
+        behind: &[u32],
+        count: usize,
+    ) -> Checked<u8> {
+        let cells = &mut self.cells;
+        cells.mark(count);
+        let statuses = [
+            host::shown(still, gliding, behind, cells.ours()),
+            library::shown(still, gliding, behind, cells.theirs()),
+        ];
+        self.tally.count_call(18, statuses[0]);
+        let given = ("shown", still, gliding, behind, count);
+        compare(statuses, &[cells], &given)
     }
 
     pub fn write_word(

@@ -14,6 +14,7 @@ mod lent;
 mod mail;
 mod mend;
 mod odd;
+mod panel;
 mod scroll;
 
 use calls::{Calls, Checked, Difference};
@@ -385,6 +386,9 @@ fn compare(calls: &mut Calls, rng: &mut Rng, frame: &Frame) -> Checked<()> {
     in_turn::frames(calls, rng, frame)?;
     scroll::frames(calls, rng, frame)?;
     scroll::odd_rows(calls, rng, frame, &real)?;
+    panel::pictures(calls, rng, frame)?;
+    panel::odd_lines(calls, rng)?;
+    panel::odd_cells(calls, rng)?;
     desks::take_turns(calls, rng, frame)?;
     mend::frames(calls, rng, frame)?;
     convert::frames(calls, rng, frame)?;
