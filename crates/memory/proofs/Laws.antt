@@ -4,7 +4,7 @@ use Rattle.memory.specs.declared.Fetch.TheVariants.{Word, Absent}
 use Rattle.memory.specs.declared.Fault.{Fault}
 use Rattle.memory.specs.declared.Pointer.{Pointer}
 use Rattle.memory.specs.Word.{if◌then◌else◌}
-use Rattle.memory.specs.Reading.{Reading, done, refuse, ask, asking, blaming, fault, absent, missing, ◌>>=◌, check, check_of, each, fetch, Outcome, given, refused, run_from, run}
+use Rattle.memory.specs.Reading.{Reading, done, refuse, ask, asking, blaming, fault, absent, missing, ◌>>=◌, check, check_of, nobody, each, fetch, Outcome, given, refused, run_from, run}
 
 -- go on from an outcome
 abbrev next : {A B : Type 0} → Outcome A → (ℕ → A → Outcome B) → Outcome B
@@ -71,10 +71,10 @@ module _ {A : Type 0} (n : ℕ) (m : List ℕ) (i : ℕ) (p : Pointer) (b : Bool
 
 module _ {A : Type 0} (n : ℕ) (m : List ℕ) (i : ℕ) (b : Bool) (k : Unit {0} → Reading A) where
   pub check-passed : b ≡ true → run_from n m (check i b >>= k) ≡ run_from n m (k tt)
-  check-passed e = check-of-passed n m i _ b k e
+  check-passed e = check-of-passed n m i nobody b k e
 
   pub check-failed : b ≡ false → run_from n m (check i b >>= k) ≡ refused (fault i)
-  check-failed e = check-of-failed n m i _ b k e
+  check-failed e = check-of-failed n m i nobody b k e
 
 -- what `word_at` says, of a reading that asks there
 if_word : {A : Type 0} (b : Bool) (v x : ℕ) (y : ℕ → Outcome A) (z : Outcome A)

@@ -2,7 +2,7 @@
 use Rattle.std.proofs.Common.{◌≡◌, ℕ, zero, suc, ◌+◌, ◌/◌, ◌<◌, ◌≤◌, Bool, true, false, ◌&&◌, ltb, List, [], ◌∷◌, length, get_or, refl, ap, subst, zero-le, le_refl, arith, lit<}
 use mathlib.Core.Bool.{and-eq-true_iff}
 use Rattle.memory.specs.Word.{if◌then◌else◌}
-use Rattle.memory.specs.Reading.{Ask, Reading, done, refuse, ask, ◌>>=◌, check, check_of, Outcome, given, refused, run_from, asked}
+use Rattle.memory.specs.Reading.{Ask, Reading, done, refuse, ask, ◌>>=◌, check, check_of, nobody, Outcome, given, refused, run_from, asked}
 use Rattle.memory.specs.declared.Fault.{Fault}
 use Rattle.memory.specs.declared.Pointer.{Pointer}
 use Rattle.memory.specs.Address.{onward, words}
@@ -39,7 +39,7 @@ check-of-reads n p true = dones refl
 check-of-reads n p false = refuses
 
 pub check-reads : (n : ℕ) (b : Bool) → Reads (λ _. b ≡ true) 0 (check n b)
-check-reads n b = check-of-reads n _ b
+check-reads n b = check-of-reads n nobody b
 
 pub if-cases : {A : Type 0} (P : A → Type 0) (b : Bool) {x y : A} → (b ≡ true → P x) → (b ≡ false → P y) → P (if b then x else y)
 if-cases P true h k = h refl

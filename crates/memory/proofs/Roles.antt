@@ -1,5 +1,5 @@
 -- What a word is read as changes nothing in what a reading comes to: its result or refusal, its count of words, the addresses asked for.
-use Rattle.std.proofs.Common.{◌≡◌, ℕ, ◌+◌, ◌/◌, Bool, ltb, List, [], ◌∷◌, length, get_or, refl, ap}
+use Rattle.std.proofs.Common.{◌≡◌, ℕ, ◌+◌, ◌/◌, ltb, List, [], ◌∷◌, length, get_or, refl, ap}
 use Rattle.memory.specs.Word.{if◌then◌else◌}
 use Rattle.memory.specs.Reading.{Role, Reading, done, refuse, ask, read_as, Outcome, refused, absent, run_from, asked}
 use Rattle.memory.proofs.ReadBounds.{Reads, dones, refuses, asks}

@@ -1,3 +1,4 @@
+#![tactic(auto)]
 // Display memory: pointers, addresses, and the words that a host lends.
 ghost use Rattle.std.specs.Prelude.{◌≡◌, ◌+◌, ◌<◌, ◌≤◌, length, take, drop, nat_le};
 ghost use Rattle.memory.specs.Word.{bit, high, low};
