@@ -1,3 +1,4 @@
+#![tactic(auto)]
 // The addresses of the words that an accepted start or row reads, in order, written into a list.
 ghost use Rattle.std.specs.Prelude.{◌≡◌, List, ℕ, ◌+◌, ◌≤◌, length};
 ghost use Rattle.std.proofs.lemmas.List.Edits.{sets};
@@ -20,7 +21,7 @@ mod of_codes; // the codes of a segment, and the words that they take
 mod of_listed; // the codes of a segment with a list, faster where their words stand one after the other in memory
 
 // Where writing stands: the next place of the list, and the attribute list in use.
-#[derive(Drop)]
+#[derive(Clone, Copy)]
 pub struct Written {
     pub at: usize,
     pub list: AttributeList,

@@ -17,7 +17,7 @@ use memory::Pointer;
 
 // A stretch of a row: what it was drawn by, the segments on a side, the column that they begin at, and the one up to which the fill run
 // after them goes.
-#[derive(Drop)]
+#[derive(Clone, Copy)]
 struct Stretch {
     settings: CodeSettings,
     fill: FillMode,

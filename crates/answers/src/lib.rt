@@ -1,3 +1,4 @@
+#![tactic(auto)]
 // The settings sheet, with what it leaves in its slice of numbers: it gives the call's status. Answers as numbers.
 ghost use Rattle.std.specs.Prelude.{◌≡◌, length};
 ghost use Rattle.settings.specs.Sheet.{sheet_call};

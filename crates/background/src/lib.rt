@@ -1,3 +1,4 @@
+#![tactic(auto)]
 // The background of a row: its block, its redefinition, and checks 9 and 10 on its segments.
 ghost use Rattle.std.specs.Prelude.{◌≡◌};
 ghost use Rattle.memory.specs.Reading.{run};
@@ -10,7 +11,7 @@ use settings::Settings;
 use state::Fields;
 
 // A row's block, its words with those of its redefinition, and the format that this makes; or a refusal.
-#[derive(Drop)]
+#[derive(Clone, Copy)]
 pub enum BackgroundRead {
     Read { block: BlockHead, format: RowFormat },
     Refused(Fault),

@@ -1,3 +1,4 @@
+#![tactic(auto)]
 // The row beside the cut of a soft scroll, in a row buffer of its own.
 ghost use Rattle.std.specs.Prelude.{◌≡◌, ◌<◌};
 ghost use Rattle.row.specs.declared.RowAnswer.TheVariants as Row;
@@ -11,7 +12,7 @@ use start::StartAnswer;
 use state::{Fields, State};
 
 // The answer of an accepted row beside the cut: no next state, since nothing of it goes on into the frame.
-#[derive(Drop)]
+#[derive(Clone, Copy)]
 pub struct BesideRow {
     pub number: u32,
     pub lines: u16,
@@ -20,7 +21,7 @@ pub struct BesideRow {
 }
 
 // The row beside the cut, that there is none, or its refusal.
-#[derive(Drop)]
+#[derive(Clone, Copy)]
 pub enum BesideAnswer {
     Absent,
     Drawn(BesideRow),

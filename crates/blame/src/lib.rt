@@ -1,3 +1,4 @@
+#![tactic(auto)]
 // Which pointer a refusal of a frame blames: a frame is drawn, its cells are not kept.
 ghost use Rattle.std.specs.Prelude.{◌≡◌, ◌||◌, eqb};
 ghost use Rattle.memory.specs.Reading.{given, run};
@@ -17,7 +18,7 @@ use state::State;
 use windows::WindowInHand;
 
 // Where the two words of a pointer stand: in the register TOW, or in memory from an address on.
-#[derive(Drop)]
+#[derive(Clone, Copy)]
 pub enum Place {
     Register,
     Memory(u32),
@@ -25,7 +26,7 @@ pub enum Place {
 
 // What drawing a frame comes to: all its rows, the number of a refusal with the pointer to blame for it, or a refusal that is given as it
 // is.
-#[derive(Drop)]
+#[derive(Clone, Copy)]
 pub enum Verdict {
     Whole,
     Blamed { place: Place, number: u8 },
@@ -33,7 +34,7 @@ pub enum Verdict {
 }
 
 // The state after a row, or the row's refusal.
-#[derive(Drop)]
+#[derive(Clone, Copy)]
 pub enum RowWalk {
     Next(State),
     Refused(Fault),

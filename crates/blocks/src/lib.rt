@@ -1,3 +1,4 @@
+#![tactic(auto)]
 // The blocks in memory: main, row, redefinition and window row.
 ghost use Rattle.std.specs.Prelude.{◌≡◌, ◌&&◌, ◌+◌, ◌≤◌, ◌%◌, length};
 ghost use Rattle.memory.specs.Word.{bit};
@@ -9,21 +10,21 @@ ghost use Rattle.blocks.specs.Answers.{main_read, block_read, format_read, segme
 use memory::{Fault, Pointer, WordsRead};
 
 // The absolute cursor's place.
-#[derive(Drop)]
+#[derive(Clone, Copy)]
 pub struct Cursor {
     pub x: u8,
     pub y: u8,
 }
 
 // The code of fill cells, and whether a fill run takes an attribute word first.
-#[derive(Drop)]
+#[derive(Clone, Copy)]
 pub struct FillMode {
     pub code: u8,
     pub flag: bool,
 }
 
 // The main block: the first row block, the cursor, the fill, M4, and the scan lines per row.
-#[derive(Drop)]
+#[derive(Clone, Copy)]
 pub struct MainBlock {
     pub rows: Pointer,
     pub cursor: Cursor,
@@ -33,7 +34,7 @@ pub struct MainBlock {
 }
 
 // A segment of a row: code pointer, attribute pointer, length L and visible V.
-#[derive(Drop)]
+#[derive(Clone, Copy)]
 pub struct Segment {
     pub codes: Pointer,
     pub attributes: Pointer,
@@ -42,7 +43,7 @@ pub struct Segment {
 }
 
 // What a redefinition sets: scan lines, row attributes, CURS and CURE.
-#[derive(Drop)]
+#[derive(Clone, Copy)]
 pub struct RowFormat {
     pub lines: u8,
     pub attributes: u16,
@@ -51,14 +52,14 @@ pub struct RowFormat {
 }
 
 // A main block, or the refusal of its reading.
-#[derive(Drop)]
+#[derive(Clone, Copy)]
 pub enum MainRead {
     Read(MainBlock),
     Refused(Fault),
 }
 
 // How many segments a block has, and the address of the first.
-#[derive(Drop)]
+#[derive(Clone, Copy)]
 pub struct SegmentCount {
     pub number: u8,
     pub at: u32,
@@ -66,7 +67,7 @@ pub struct SegmentCount {
 
 // A row block but for its segments: the words read, count of segments, link and redefinition pointer. The pointers stand last, clear of
 // the parts of a refusal, so that each is written and read in one piece.
-#[derive(Drop)]
+#[derive(Clone, Copy)]
 pub struct BlockHead {
     pub words: u32,
     pub count: SegmentCount,
@@ -75,21 +76,21 @@ pub struct BlockHead {
 }
 
 // A row block or a window row block, or the refusal of its reading.
-#[derive(Drop)]
+#[derive(Clone, Copy)]
 pub enum BlockRead {
     Read(BlockHead),
     Refused(Fault),
 }
 
 // A block's redefinition pointer, or the refusal of its reading.
-#[derive(Drop)]
+#[derive(Clone, Copy)]
 enum PointerRead {
     Read(Pointer),
     Refused(Fault),
 }
 
 // The format of a row with the words read for it, or a refusal.
-#[derive(Drop)]
+#[derive(Clone, Copy)]
 pub enum FormatRead {
     Read { format: RowFormat, words: u32 },
     Refused(Fault),

@@ -1,3 +1,4 @@
+#![tactic(auto)]
 // How much of the bus a screen takes: a row's bursts and its least released time, and the running totals of the rows handed in.
 ghost use Rattle.std.specs.Prelude.{◌≡◌, true, ◌+◌, ◌-◌, ◌*◌, ◌<◌, ◌≤◌};
 ghost use Rattle.memory.specs.Word.{if◌then◌else◌};
@@ -8,7 +9,7 @@ use memory::Refusal;
 pub mod numbers; // totals and figures as numbers
 
 // A row handed in: the burst register (space in the high byte, count in the low), the words read for the row, its screen and row.
-#[derive(Drop)]
+#[derive(Clone, Copy)]
 pub struct BusRow {
     pub burst: u16,
     pub words: u32,
@@ -17,14 +18,14 @@ pub struct BusRow {
 }
 
 // What a row takes of the bus: its bursts, and the least time for which it releases the bus, in system clocks.
-#[derive(Drop)]
+#[derive(Clone, Copy)]
 pub struct Figures {
     pub bursts: u64,
     pub released: u64,
 }
 
 // The running totals: the sums over the rows, the largest word count with its screen and row, and whether a row was handed in.
-#[derive(Drop)]
+#[derive(Clone, Copy)]
 pub struct Totals {
     pub words: u64,
     pub bursts: u64,
@@ -36,14 +37,14 @@ pub struct Totals {
 }
 
 // A row's figures, or its refusal: 20, burst count 0; 21, a total that would not fit.
-#[derive(Drop)]
+#[derive(Clone, Copy)]
 pub enum BusAnswer {
     Counted(Figures),
     Refused(Refusal),
 }
 
 // The totals after a row, and the row's answer.
-#[derive(Drop)]
+#[derive(Clone, Copy)]
 pub struct Reported {
     pub totals: Totals,
     pub answer: BusAnswer,

@@ -1,3 +1,4 @@
+#![tactic(auto)]
 // The bus report of a script: the draw program's script on standard input, and on standard output the report of its screen.
 use bus_text::TextLines;
 use libc::STDOUT_FILENO;

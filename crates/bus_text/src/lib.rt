@@ -1,3 +1,4 @@
+#![tactic(auto)]
 // The text of a bus report, a few lines at a time: a line for each row of a frame, then the totals and the largest row.
 ghost use Rattle.std.specs.Prelude.{◌≡◌, ◌+◌, ◌<◌};
 ghost use Rattle.script.specs.Feeding.{stepped, outcome};
@@ -14,7 +15,7 @@ use settings::Settings;
 mod bus_lines; // the lines
 
 // The report of a frame in progress: `before` are the words that go with its next row and are not that row's own.
-#[derive(Drop)]
+#[derive(Clone, Copy)]
 pub struct Reporting {
     pub settings: Settings,
     pub burst: u16,
@@ -24,7 +25,7 @@ pub struct Reporting {
 }
 
 // What of a text is still to come.
-#[derive(Drop)]
+#[derive(Clone, Copy)]
 pub enum Text {
     Rows(Reporting), // the rows of a frame in progress, and its last lines
     Refused(Refusal), // the line of a refusal
@@ -33,7 +34,7 @@ pub enum Text {
 }
 
 // `count` bytes of the text, with the text after them; or that it is at its end.
-#[derive(Drop)]
+#[derive(Clone, Copy)]
 pub enum TextLines {
     Written { count: usize, text: Text },
     AtEnd,

@@ -1,3 +1,4 @@
+#![tactic(auto)]
 // The cells of a row, drawn left to right.
 ghost use Rattle.std.specs.Prelude.{◌≡◌, ◌+◌, ◌*◌, ◌≤◌, length};
 ghost use Rattle.memory.specs.Word.{if◌then◌else◌};
@@ -18,7 +19,7 @@ use memory::Fault;
 pub mod fill; // fill runs
 
 // What the cells of a row came to: the latch, whether a word of this row became it, and the words read; or the refusal met.
-#[derive(Drop)]
+#[derive(Clone, Copy)]
 pub enum CellsDrawn {
     Accepted {
         latch: u16,
@@ -29,7 +30,7 @@ pub enum CellsDrawn {
 }
 
 // A stretch of a row: what it is drawn by, the segments on a side, their source, and the column up to which the fill run after them goes.
-#[derive(Drop)]
+#[derive(Clone, Copy)]
 struct Stretch {
     settings: CodeSettings,
     fill: FillMode,

@@ -1,3 +1,4 @@
+#![tactic(auto)]
 // The conversion of segmented lists (document 02, "Segmented memory goes away"): a frame is followed first, its words marked and nothing
 // changed; then one pass over the marks turns the first word of each pointer.
 ghost use Rattle.std.specs.Prelude.{◌≡◌, ◌+◌, ◌≤◌, length, replicate};

@@ -1,3 +1,4 @@
+#![tactic(auto)]
 // The converting program: a draw program's script on standard input, and on standard output the same screen as a linear script, or the line of
 // a refusal.
 use convert_text::{Piece, Text};

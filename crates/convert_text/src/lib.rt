@@ -1,3 +1,4 @@
+#![tactic(auto)]
 // The text that the converting program prints, a piece at a time: the script of a converted list, or the line of a refusal.
 ghost use Rattle.std.specs.Prelude.{◌≡◌, length};
 ghost use Rattle.script.specs.Feeding.{stepped, outcome};
@@ -12,7 +13,7 @@ use script::Step;
 use settings::Settings;
 
 // What of a text is still to come.
-#[derive(Drop)]
+#[derive(Clone, Copy)]
 pub enum Text {
     Script(image::Text), // of a script
     Refused(Refusal), // the line of a refused conversion
@@ -21,7 +22,7 @@ pub enum Text {
 }
 
 // `count` bytes of the text, with the text after them; or that it is at its end.
-#[derive(Drop)]
+#[derive(Clone, Copy)]
 pub enum Piece {
     Written { count: usize, text: Text },
     AtEnd,

@@ -1,3 +1,4 @@
+#![tactic(auto)]
 // The draw program: a script on standard input, and on standard output its text.
 use libc::STDOUT_FILENO;
 use script::Step;

@@ -1,3 +1,4 @@
+#![tactic(auto)]
 // The effect of a row on the latch.
 ghost use Rattle.std.specs.Prelude.{◌≡◌};
 ghost use Rattle.memory.specs.Reading.{given, run};
@@ -18,14 +19,14 @@ use settings::Settings;
 use state::Fields;
 
 // The next state's fields other than the latch, or that both parts refuse.
-#[derive(Drop)]
+#[derive(Clone, Copy)]
 pub enum NextFields {
     Reached(Fields),
     Unreached,
 }
 
 // The answer of an effect call.
-#[derive(Drop)]
+#[derive(Clone, Copy)]
 pub struct EffectAnswer {
     pub effect: Effect,
     pub next: NextFields,

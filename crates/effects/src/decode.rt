@@ -8,7 +8,7 @@ use memory::Refusal;
 use numbers::decode;
 
 // An effect, or that the numbers are none.
-#[derive(Drop)]
+#[derive(Clone, Copy)]
 pub enum EffectIn {
     Fit(Effect),
     Unfit,

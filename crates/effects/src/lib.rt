@@ -1,3 +1,4 @@
+#![tactic(auto)]
 // Effects of rows, with what the calls on them leave in their slices of numbers. Each gives the call's status.
 ghost use Rattle.std.specs.Prelude.{◌≡◌, length};
 ghost use Rattle.effect.specs.Effect.{effect_call};

@@ -1,3 +1,4 @@
+#![tactic(auto)]
 // Which row of a frame has a line, found by going through its rows; and how a frame ends.
 ghost use Rattle.std.specs.Prelude.{◌≡◌, length};
 ghost use Rattle.panel.specs.Shown.{no_columns};
@@ -12,7 +13,7 @@ use state::State;
 use windows::WindowInHand;
 
 // A row that has a line: its number among the rows, the scan line, its answer and the state before it.
-#[derive(Drop)]
+#[derive(Clone, Copy)]
 pub struct WalkedRow {
     pub index: u64,
     pub line: u64,
@@ -21,7 +22,7 @@ pub struct WalkedRow {
 }
 
 // The row that has a line; or how far past the rows it is, with the state after the last one or the refusal that ended them.
-#[derive(Drop)]
+#[derive(Clone, Copy)]
 pub enum Walked {
     At(WalkedRow),
     Past { state: State, line: u64 },
@@ -29,7 +30,7 @@ pub enum Walked {
 }
 
 // How a frame ended: its last state, or its refusal.
-#[derive(Drop)]
+#[derive(Clone, Copy)]
 pub enum FrameEnd {
     Ended(State),
     Refused(Refusal),

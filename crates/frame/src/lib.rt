@@ -1,3 +1,4 @@
+#![tactic(auto)]
 // A frame, row by row: its start, and its row calls until no line is left.
 ghost use Rattle.std.specs.Prelude.{◌≡◌, ◌≤◌, min};
 ghost use Rattle.frame.specs.HandedOn.{latch_after, HandsOn};
@@ -10,14 +11,14 @@ use start::StartAnswer;
 use state::State;
 
 // A frame in progress: the state that its next row is called on, and the words that its start and its rows so far have read.
-#[derive(Drop)]
+#[derive(Clone, Copy)]
 pub struct Progress {
     pub state: State,
     pub words: u32,
 }
 
 // A frame in progress, or the refusal of its start.
-#[derive(Drop)]
+#[derive(Clone, Copy)]
 pub enum BeginAnswer {
     Begun(Progress),
     Refused(Refusal),
@@ -25,7 +26,7 @@ pub enum BeginAnswer {
 
 // A row, with the frame in progress after it; the end of the frame, whose row numbers stop before `rows`; or a refusal, which
 // ends the frame.
-#[derive(Drop)]
+#[derive(Clone, Copy)]
 pub enum StepAnswer {
     Drawn { row: DrawnRow, progress: Progress },
     Ended { rows: u32, words: u32 },

@@ -1,3 +1,4 @@
+#![tactic(auto)]
 // The lines of the glide program's output, each put at the start of a buffer or after the first bytes of it.
 ghost use Rattle.std.specs.Prelude.{◌≡◌, ◌++◌, map, ◌+◌, ◌≤◌, nat_abs, length, take};
 ghost use Rattle.lines.specs.Lines.{text, decimal, Line};
@@ -8,7 +9,7 @@ use scroll::Scroll;
 use settings::{PointerWords, Settings};
 
 // Scan lines of a row: which row, from which of its lines on, of how many; its row attributes.
-#[derive(Drop)]
+#[derive(Clone, Copy)]
 pub struct RowPart {
     pub index: u64,
     pub line: u64,
@@ -17,7 +18,7 @@ pub struct RowPart {
 }
 
 // What glides on a stretch: scan lines of a row of the frame, of a row below or of the row above, or nothing.
-#[derive(Drop)]
+#[derive(Clone, Copy)]
 pub enum Gliding {
     Nothing,
     Row(RowPart),
@@ -26,7 +27,7 @@ pub enum Gliding {
 }
 
 // A stretch: its first and last line, what glides there, what stands still there, and the columns of the window on the latter.
-#[derive(Drop)]
+#[derive(Clone, Copy)]
 pub struct Stretch {
     pub first: u64,
     pub last: u64,

@@ -1,3 +1,4 @@
+#![tactic(auto)]
 // The text that the glide program prints: the frames of a script whose draws are frames one after the other.
 ghost use Rattle.std.specs.Prelude.{◌≡◌};
 ghost use Rattle.memory.specs.Word.{if◌then◌else◌};
@@ -14,7 +15,7 @@ use settings::PointerWords;
 
 // Where a glide stands: the script so far, whose settings' TOP is the hard top; the soft top, registers 04h and 05h; the scroll of the
 // last frame and the latch that it handed on; how many frames were drawn.
-#[derive(Drop)]
+#[derive(Clone, Copy)]
 pub struct Glide {
     pub script: Script,
     pub soft: PointerWords,
@@ -24,14 +25,14 @@ pub struct Glide {
 }
 
 // What follows a frame: the input's next bytes; or frames, so many at most, since the input is at its end.
-#[derive(Drop)]
+#[derive(Clone, Copy)]
 pub enum Follow {
     Input,
     Frames(u32),
 }
 
 // What of a text is still to come.
-#[derive(Drop)]
+#[derive(Clone, Copy)]
 pub enum Text {
     Reading(Glide), // it goes on with the next byte
     Drawing {

@@ -1,3 +1,4 @@
+#![tactic(auto)]
 // The image of a script: its switches, its 25 registers and its memory of 16,384 words, read from its records and written as records.
 ghost use Rattle.std.specs.Prelude.{◌≡◌, ◌++◌, ◌+◌, ◌≤◌, ◌<◌, length, take, drop};
 ghost use Rattle.settings.specs.Good.{interlace_number};
@@ -11,7 +12,7 @@ use script::{Script, Step};
 use settings::{Interlace, Settings};
 
 // What of an image's script is still to come.
-#[derive(Drop)]
+#[derive(Clone, Copy)]
 pub enum Text {
     Head(u8), // all of it, with these switches
     Words(usize), // the records of the words from this number on
@@ -19,7 +20,7 @@ pub enum Text {
 }
 
 // `count` bytes of the script, with what comes after them; or that it is at its end.
-#[derive(Drop)]
+#[derive(Clone, Copy)]
 pub enum Piece {
     Written { count: usize, text: Text },
     AtEnd,

@@ -1,3 +1,4 @@
+#![tactic(auto)]
 // Effects of rows on the latch, joined and applied.
 ghost use Rattle.std.specs.Prelude.{◌≡◌};
 ghost use Rattle.joining.specs.Join.{empty, part_for, set_then, join_part, join, apply};
@@ -5,7 +6,7 @@ ghost use Rattle.joining.specs.Join.{empty, part_for, set_then, join_part, join,
 use memory::Refusal;
 
 // What a row does to the latch: keep it, set it to a word, or refuse.
-#[derive(Drop)]
+#[derive(Clone, Copy)]
 pub enum Part {
     Keep,
     Set(u16),
@@ -13,14 +14,14 @@ pub enum Part {
 }
 
 // A row effect: its part for an incoming latch with ignore clear, and the one with ignore set.
-#[derive(Drop)]
+#[derive(Clone, Copy)]
 pub struct Effect {
     pub clear: Part,
     pub set: Part,
 }
 
 // What an effect makes of a latch.
-#[derive(Drop)]
+#[derive(Clone, Copy)]
 pub enum Applied {
     Latch(u16),
     Refused(Refusal),

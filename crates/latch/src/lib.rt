@@ -1,3 +1,4 @@
+#![tactic(auto)]
 // What a row does to the latch, told without cells, where no fill run takes a word and every word is there.
 ghost use Rattle.std.specs.Prelude.{◌≡◌};
 ghost use Rattle.memory.specs.Word.{if◌then◌else◌};
@@ -14,7 +15,7 @@ use layout::{OverlayHead, Side};
 mod segment; // the codes of a segment, and the words of its list
 
 // What becomes of the latch: it is kept, or a word becomes it; or that is unclear, and the row has to be drawn.
-#[derive(Drop)]
+#[derive(Clone, Copy)]
 pub enum LatchEffect {
     Kept,
     Latched(u16),

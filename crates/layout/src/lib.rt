@@ -1,3 +1,4 @@
+#![tactic(auto)]
 // The segments of a row, from their words: widths, boundaries, and the side of a window that they are on.
 ghost use Rattle.std.specs.Prelude.{◌≡◌};
 ghost use Rattle.blocks.specs.RowBlock.{segments_of};
@@ -10,7 +11,7 @@ pub mod overlay; // the window on a row
 
 // The background segments of a row without a window; those drawn before a window, from its first column; those drawn after it,
 // from its first column and the one after its last.
-#[derive(Drop)]
+#[derive(Clone, Copy)]
 pub enum Side {
     Whole,
     Before(usize),
@@ -18,7 +19,7 @@ pub enum Side {
 }
 
 // The window on a row but for its segments: none, or its number, first column, the one after its last, and the count of segments.
-#[derive(Drop)]
+#[derive(Clone, Copy)]
 pub enum OverlayHead {
     NoOverlay,
     Over {
@@ -30,7 +31,7 @@ pub enum OverlayHead {
 }
 
 // Whether a row's segments all pass check 9, and the sum of their widths.
-#[derive(Drop)]
+#[derive(Clone, Copy)]
 pub struct Measure {
     pub fit: bool,
     pub width: usize,

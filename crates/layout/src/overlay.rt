@@ -13,7 +13,7 @@ use settings::Settings;
 use windows::{Window, WindowBlock, WindowInHand};
 
 // The window on a row, and the window in hand after it.
-#[derive(Drop)]
+#[derive(Clone, Copy)]
 pub enum OverlayRead {
     Read {
         overlay: OverlayHead,

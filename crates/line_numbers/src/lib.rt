@@ -1,3 +1,4 @@
+#![tactic(auto)]
 // A line of the panel as seven numbers, and which frames a line can be asked of.
 ghost use Rattle.std.specs.Prelude.{◌≡◌};
 ghost use Rattle.line_numbers.specs.LineNumbers.{is_height, are_heights, line_asked, spot_at, background_spot, still_spot, line_numbers};
@@ -7,7 +8,7 @@ use numbers::encode;
 use panel::{Background, Line, Placed};
 
 // What glides or stands still on a line as three numbers: its kind, its index, its scan line.
-#[derive(Drop)]
+#[derive(Clone, Copy)]
 pub struct Spot {
     pub kind: u32,
     pub index: u32,

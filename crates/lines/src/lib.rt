@@ -1,3 +1,4 @@
+#![tactic(auto)]
 // The lines of the draw program's output, each put at the start of a buffer; the answer is the line's length.
 ghost use Rattle.std.specs.Prelude.{◌≡◌, ◌++◌, ◌+◌, ◌≤◌, ◌<◌, min, length, take, drop};
 ghost use Rattle.settings.specs.Good.{shown_columns};

@@ -1,3 +1,4 @@
+#![tactic(auto)]
 // Starts and rows with a list of the addresses that they read, in order.
 ghost use Rattle.std.specs.Prelude.{◌≡◌, ◌≤◌, length};
 ghost use Rattle.memory.specs.Reading.{given, run, asked};

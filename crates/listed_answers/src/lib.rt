@@ -1,3 +1,4 @@
+#![tactic(auto)]
 // The start of a frame and a row with a list of the addresses read, with what each leaves in its slices of numbers. Each gives the call's
 // status.
 ghost use Rattle.std.specs.Prelude.{◌≡◌, length};

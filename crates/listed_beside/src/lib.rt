@@ -1,3 +1,4 @@
+#![tactic(auto)]
 // The row beside the cut with a list of the addresses that it reads, in order.
 ghost use Rattle.std.specs.Prelude.{◌≡◌};
 ghost use Rattle.listed_beside.specs.ListedBeside.{beside_with, below_listed, above_listed, beside_listed};

@@ -1,3 +1,4 @@
+#![tactic(auto)]
 // A row as terminal text with ECMA-48 marks: the writer.
 ghost use Rattle.std.specs.Prelude.{◌≡◌, ◌∷◌, [], ◌++◌, map, ◌+◌, ◌≤◌, ◌<◌, length, take};
 ghost use Rattle.memory.specs.Word.{if◌then◌else◌};
@@ -10,7 +11,7 @@ use memory::Refusal;
 use settings::Settings;
 
 // The length of the text written, or the refusal.
-#[derive(Drop)]
+#[derive(Clone, Copy)]
 pub enum Written {
     Text(usize),
     Refused(Refusal),

@@ -1,3 +1,4 @@
+#![tactic(auto)]
 // The writer and the reader of a row's text, with their answers as a number in a lent slice.
 ghost use Rattle.std.specs.Prelude.{◌≡◌, ◌∷◌, [], eqb, length};
 ghost use Rattle.memory.specs.Word.{if◌then◌else◌};

@@ -1,3 +1,4 @@
+#![tactic(auto)]
 // A row read back from terminal text with ECMA-48 marks.
 ghost use Rattle.std.specs.Prelude.{◌≡◌, List, [], ℕ, ◌+◌, ◌≤◌, max, length, take, drop};
 ghost use Rattle.mail.specs.Write.{onto};
@@ -8,21 +9,21 @@ ghost use Rattle.mail_reader.specs.Answers.{row_read, NextWithin, RowWithin};
 use memory::{Fault, Refusal};
 
 // The number of cells read, or the refusal.
-#[derive(Drop)]
+#[derive(Clone, Copy)]
 pub enum ReadAnswer {
     Read(usize),
     Refused(Refusal),
 }
 
 // A cell, and the bytes that it takes with its change of marks; or how many bytes are like one.
-#[derive(Drop)]
+#[derive(Clone, Copy)]
 pub enum Next {
     Cell { cell: u16, bytes: usize },
     Stops(usize),
 }
 
 // The number of a row's cells, or the offset at which the text is none.
-#[derive(Drop)]
+#[derive(Clone, Copy)]
 enum RowRead {
     Cells(usize),
     Stops(usize),

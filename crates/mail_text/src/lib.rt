@@ -1,3 +1,4 @@
+#![tactic(auto)]
 // The text that the mail program prints, a row at a time: a script that was refused, or a frame row by row.
 ghost use Rattle.std.specs.Prelude.{◌≡◌, true};
 ghost use Rattle.settings.specs.Good.{good};

@@ -1,3 +1,4 @@
+#![tactic(auto)]
 // A screen as terminal text: a script of the draw program on standard input, and on standard output the text of its rows.
 use libc::STDOUT_FILENO;
 use script::Step;

@@ -8,7 +8,7 @@ ghost use Rattle.memory.specs.Answers.{is_run, end_page, words_read};
 
 // A pointer in use: the address of the word that is due, and where the pointer itself begins in memory, 0 where a register held it. A
 // null pointer has 0 and 0.
-#[derive(Drop)]
+#[derive(Clone, Copy)]
 pub struct Pointer {
     pub address: u32,
     pub from: u32,
@@ -16,7 +16,7 @@ pub struct Pointer {
 
 // A refusal on its way up, before its row is told: document 01's number, the address, and of refusals 7 to 10 and 13 where the pointer to
 // blame begins.
-#[derive(Drop)]
+#[derive(Clone, Copy)]
 pub struct Fault {
     pub number: u8,
     pub address: u32,
@@ -24,7 +24,7 @@ pub struct Fault {
 }
 
 // A refusal of document 01: its number, the row and the address that it tells; of refusal 7 also where the pointer in use begins.
-#[derive(Drop)]
+#[derive(Clone, Copy)]
 pub struct Refusal {
     pub number: u8,
     pub row: u32,
@@ -33,14 +33,14 @@ pub struct Refusal {
 }
 
 // A word of memory, or that the address lies outside it.
-#[derive(Drop)]
+#[derive(Clone, Copy)]
 pub enum Fetch {
     Word(u16),
     Absent,
 }
 
 // That a slice is filled, or refusal 7 of the first word that lies outside memory.
-#[derive(Drop)]
+#[derive(Clone, Copy)]
 pub enum WordsRead {
     Whole,
     Refused(Fault),

@@ -1,3 +1,4 @@
+#![tactic(auto)]
 // The mending program: a draw program's script on standard input, and on standard output a line for each pointer that was changed, then the
 // text of the mended list.
 use libc::STDOUT_FILENO;

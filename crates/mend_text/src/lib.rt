@@ -1,3 +1,4 @@
+#![tactic(auto)]
 // The text that the mending program prints before the draw program's: a line for each change.
 ghost use Rattle.std.specs.Prelude.{◌≡◌};
 ghost use Rattle.lines.specs.Lines.{Line};
@@ -8,7 +9,7 @@ use mending::{Change, MendAnswer};
 use settings::Settings;
 
 // A line of `count` bytes, with the settings after its change; or that there is nothing more to mend.
-#[derive(Drop)]
+#[derive(Clone, Copy)]
 pub enum ChangeLines {
     Written { count: usize, settings: Settings },
     Ended,

@@ -1,3 +1,4 @@
+#![tactic(auto)]
 // Mending damaged lists: a frame is drawn, and at a refusal the pointer to blame for it is set to 0.
 ghost use Rattle.std.specs.Prelude.{◌≡◌, ◌/◌, get_or, set};
 ghost use Rattle.mending.specs.Answers.{Fewer};
@@ -8,7 +9,7 @@ use memory::Refusal;
 use settings::{PointerWords, Settings};
 
 // A pointer that was set to 0: where it stands, its words before, and the number of the refusal.
-#[derive(Drop)]
+#[derive(Clone, Copy)]
 pub struct Change {
     pub place: Place,
     pub first: u16,
@@ -17,7 +18,7 @@ pub struct Change {
 }
 
 // One step of mending: nothing to mend, one pointer changed, with the settings after it, or a refusal that is given as it is.
-#[derive(Drop)]
+#[derive(Clone, Copy)]
 pub enum MendAnswer {
     Whole,
     Changed { change: Change, settings: Settings },

@@ -1,3 +1,4 @@
+#![tactic(auto)]
 // The codes of a segment whose words are all there, with the addresses of the words that they read noted in a list.
 ghost use Rattle.std.specs.Prelude.{◌≡◌, ◌&&◌, true, false, ℕ, ◌+◌, ◌*◌, ◌/◌, ◌≤◌, length};
 ghost use Rattle.memory.specs.Reading.{given};
@@ -13,7 +14,7 @@ pub mod plain; // words without a code that invokes
 mod with_words; // codes that take words of a list
 
 // Where drawing stands, and the words read so far.
-#[derive(Drop)]
+#[derive(Clone, Copy)]
 pub struct Reached {
     pub pen: Pen,
     pub words: u32,

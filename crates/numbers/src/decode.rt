@@ -11,14 +11,14 @@ use state::{Fields, State};
 use windows::{Window, WindowBlock, WindowInHand};
 
 // Settings, or that the numbers are none: too few or too many.
-#[derive(Drop)]
+#[derive(Clone, Copy)]
 pub enum SettingsIn {
     Fit(Settings),
     Unfit,
 }
 
 // A state, or that the numbers are none: too few, too many, or one past its field's range that refusal 3 does not judge.
-#[derive(Drop)]
+#[derive(Clone, Copy)]
 pub enum StateIn {
     Fit(State),
     Unfit,

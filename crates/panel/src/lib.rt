@@ -1,3 +1,4 @@
+#![tactic(auto)]
 // What the lines of a panel show while a frame is shifted: which row and scan line glides on each, which stands still, and their cells.
 ghost use Rattle.std.specs.Prelude.{◌≡◌, ◌-◌, min, nat_abs, take};
 ghost use Rattle.panel.specs.Line.{place, row_at, above_at, background, background_lines, line};
@@ -5,7 +6,7 @@ ghost use Rattle.panel.specs.Answers.{shown_in};
 ghost use Rattle.panel.specs.Shown.{layer, in_columns, cell_in, background_cell, cursor_bit, with_cursor_of, sized, show_called, show_call};
 
 // A place in rows one after the other: which row, which of its scan lines, and how many of them from there on.
-#[derive(Drop)]
+#[derive(Clone, Copy)]
 pub struct Place {
     pub index: usize,
     pub line: u64,
@@ -13,14 +14,14 @@ pub struct Place {
 }
 
 // Where a line is in rows, or that it is past them.
-#[derive(Drop)]
+#[derive(Clone, Copy)]
 pub enum Placed {
     Nowhere,
     At(Place),
 }
 
 // What glides on a line: a row of the frame or below it, the row above, or nothing.
-#[derive(Drop)]
+#[derive(Clone, Copy)]
 pub enum Background {
     Nothing,
     Row(Place),
@@ -28,7 +29,7 @@ pub enum Background {
 }
 
 // A line of the screen: what glides there, what stands still, and how many lines from it on have these two rows.
-#[derive(Drop)]
+#[derive(Clone, Copy)]
 pub struct Line {
     pub background: Background,
     pub still: Placed,
@@ -36,7 +37,7 @@ pub struct Line {
 }
 
 // The columns of a window, first to last; where there is none the first is past the last.
-#[derive(Drop)]
+#[derive(Clone, Copy)]
 pub struct Columns {
     pub first: u32,
     pub last: u32,

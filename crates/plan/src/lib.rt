@@ -1,3 +1,4 @@
+#![tactic(auto)]
 // The plan of a row: what it is drawn from, before any cell.
 ghost use Rattle.std.specs.Prelude.{◌≡◌, true, ◌<◌};
 ghost use Rattle.memory.specs.Reading.{fault, run};
@@ -15,7 +16,7 @@ use state::Fields;
 use windows::{WindowInHand, WindowRead};
 
 // A row's plan but for the segments: `count` of the background's, and the words read.
-#[derive(Drop)]
+#[derive(Clone, Copy)]
 pub struct PlanHead {
     pub lines: u16,
     pub format: RowFormat,
@@ -26,7 +27,7 @@ pub struct PlanHead {
 }
 
 // The plan of a row, or the refusal of a check or a reading.
-#[derive(Drop)]
+#[derive(Clone, Copy)]
 pub enum PlanAnswer {
     Planned(PlanHead),
     Refused(Fault),

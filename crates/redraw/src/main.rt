@@ -1,3 +1,4 @@
+#![tactic(auto)]
 // Rows drawn alone: each frame is drawn in turn, and then each of its rows again, in another order, from the effects of the
 // rows above it. Every line that is written says whether the row alone is the one drawn in turn.
 ghost use Rattle.std.specs.Prelude.{◌≡◌};

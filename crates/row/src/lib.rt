@@ -1,3 +1,4 @@
+#![tactic(auto)]
 // The row call: the next row of a frame, into a row buffer.
 ghost use Rattle.std.specs.Prelude.{◌≡◌, ◌&&◌, true, length, eqb};
 ghost use Rattle.memory.specs.Reading.{given, run};
@@ -15,7 +16,7 @@ use settings::Settings;
 use state::{Fields, State};
 
 // The answer of an accepted row, but for its cells, which the row buffer has.
-#[derive(Drop)]
+#[derive(Clone, Copy)]
 pub struct DrawnRow {
     pub number: u32,
     pub lines: u16,
@@ -25,7 +26,7 @@ pub struct DrawnRow {
 }
 
 // The answer of a row, or its refusal.
-#[derive(Drop)]
+#[derive(Clone, Copy)]
 pub enum RowAnswer {
     Accepted(DrawnRow),
     Refused(Refusal),

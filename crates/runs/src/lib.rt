@@ -1,3 +1,4 @@
+#![tactic(auto)]
 // The codes of a segment, faster where their words stand one after the other in memory.
 ghost use Rattle.std.specs.Prelude.{◌≡◌, ◌+◌, ◌*◌, ◌≤◌, length};
 ghost use Rattle.memory.specs.Reading.{run_from};

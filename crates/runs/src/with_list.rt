@@ -14,14 +14,14 @@ use codes::{AttributeList, CodeSettings, Drawn, Pen, Room, attribute};
 use memory::Pointer;
 
 // What an attribute makes of a character: its cell's bits but the code's, and the column that it stands before.
-#[derive(Drop)]
+#[derive(Clone, Copy)]
 pub struct InForce {
     pub bits: u32,
     pub limit: usize,
 }
 
 // Where drawing stands in a segment: the pen, with the count of words taken of the list, and what the latch makes of a character.
-#[derive(Drop)]
+#[derive(Clone, Copy)]
 pub struct Cursor {
     pub column: usize,
     pub latch: u16,

@@ -1,3 +1,4 @@
+#![tactic(auto)]
 // The script of the draw program: its records, read byte by byte, set settings and memory.
 ghost use Rattle.std.specs.Prelude.{◌≡◌, ◌-◌};
 ghost use Rattle.memory.specs.Word.{if◌then◌else◌};
@@ -8,7 +9,7 @@ ghost use Rattle.script.specs.Script.{unset};
 use settings::{Edition, Interlace, PointerWords, Settings};
 
 // Where a script stands: its settings so far, the bytes read, and the record in hand.
-#[derive(Drop)]
+#[derive(Clone, Copy)]
 pub struct Script {
     pub settings: Settings,
     pub read: u64, // bytes read so far
@@ -19,7 +20,7 @@ pub struct Script {
 }
 
 // What bytes lead to: more are wanted, the draw, or the offset at which the script is refused.
-#[derive(Drop)]
+#[derive(Clone, Copy)]
 pub enum Step {
     More(Script),
     Draw(Settings),

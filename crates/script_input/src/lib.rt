@@ -1,3 +1,4 @@
+#![tactic(auto)]
 // A script read from standard input.
 ghost use Rattle.script.specs.Feeding.{beginning};
 ghost use Rattle.script_input.specs.Input.{Input, Drawing};

@@ -1,3 +1,4 @@
+#![tactic(auto)]
 // Soft scroll of the background: the shift call, before each frame.
 ghost use Rattle.std.specs.Prelude.{◌≡◌, true, ◌≤◌, ◌<◌, ◌/◌, ◌%◌, nat_abs};
 ghost use Rattle.memory.specs.Word.{bit};
@@ -13,7 +14,7 @@ use settings::{PointerWords, Settings, SettingsCheck};
 
 // A scroll between two frames: the shift in scan lines, positive up and negative down; the phase, frames since the last move; the
 // direction, 1 up and 0 down.
-#[derive(Drop)]
+#[derive(Clone, Copy)]
 pub struct Scroll {
     pub shift: i32,
     pub phase: u32,
@@ -21,35 +22,35 @@ pub struct Scroll {
 }
 
 // What a shift call gives: the scroll, and the two words of the hard top.
-#[derive(Drop)]
+#[derive(Clone, Copy)]
 pub struct FrameShift {
     pub scroll: Scroll,
     pub top: PointerWords,
 }
 
 // The answer of a shift call, or its refusal.
-#[derive(Drop)]
+#[derive(Clone, Copy)]
 pub enum ShiftAnswer {
     Accepted(FrameShift),
     Refused(Refusal),
 }
 
 // A rate: it moves its lines once in its frames.
-#[derive(Drop)]
+#[derive(Clone, Copy)]
 pub struct Rate {
     pub lines: u32,
     pub frames: u32,
 }
 
 // The scan lines that a shift has moved, either way, and the phase.
-#[derive(Drop)]
+#[derive(Clone, Copy)]
 pub struct Offset {
     pub lines: u32,
     pub phase: u32,
 }
 
 // The scan lines of a row, or the refusal of a reading.
-#[derive(Drop)]
+#[derive(Clone, Copy)]
 pub enum LinesRead {
     Read(u8),
     Refused(Fault),

@@ -1,3 +1,4 @@
+#![tactic(auto)]
 // The settings of a desk, and the settings sheet: timing, lines for rows, clocks and invoking codes.
 ghost use Rattle.std.specs.Prelude.{◌≡◌, List, ℕ, ◌-◌, ◌*◌, ◌≤◌};
 ghost use Rattle.memory.specs.Reading.{run_from};
@@ -10,7 +11,7 @@ ghost use Rattle.settings.specs.Answers.{settings_checked};
 use memory::{Fault, Refusal};
 
 // The interlace mode: none, repeat field (RFI) or video (IV).
-#[derive(Drop)]
+#[derive(Clone, Copy)]
 pub enum Interlace {
     Progressive,
     RepeatField,
@@ -18,21 +19,21 @@ pub enum Interlace {
 }
 
 // The timing edition: AMD's part or Zilog's.
-#[derive(Drop)]
+#[derive(Clone, Copy)]
 pub enum Edition {
     Am8052,
     Z8052,
 }
 
 // The two fields of an interlaced picture.
-#[derive(Drop)]
+#[derive(Clone, Copy)]
 pub enum Field {
     Even,
     Odd,
 }
 
 // The two words of a pointer that a register holds.
-#[derive(Drop)]
+#[derive(Clone, Copy)]
 pub struct PointerWords {
     pub first: u16,
     pub second: u16,
@@ -40,7 +41,7 @@ pub struct PointerWords {
 
 // A desk's settings: linear or segmented memory, Display Hidden, the interlace mode, cursor enable, the attribute flag (mask high
 // byte, value low byte), TOP and TOW, the numbers of the timing, and the timing edition.
-#[derive(Drop)]
+#[derive(Clone, Copy)]
 pub struct Settings {
     pub linear: bool,
     pub hidden: bool,
@@ -61,7 +62,7 @@ pub struct Settings {
 }
 
 // Vertical counts of a field, in half lines; `rise` is from the fall of sync to the rise of blank.
-#[derive(Drop)]
+#[derive(Clone, Copy)]
 pub struct Timing {
     pub sync: u16,
     pub back: u16,
@@ -72,7 +73,7 @@ pub struct Timing {
 }
 
 // Horizontal counts, in clocks; `rise` and `fall` are those of blank, from the rise of sync.
-#[derive(Drop)]
+#[derive(Clone, Copy)]
 pub struct Clocks {
     pub sync: u16,
     pub period: u16,
@@ -81,7 +82,7 @@ pub struct Clocks {
 }
 
 // What the settings sheet gives: the timing of even and of odd fields; `invoking` codes of the 256 invoke an attribute.
-#[derive(Drop)]
+#[derive(Clone, Copy)]
 pub struct Sheet {
     pub even: Timing,
     pub odd: Timing,
@@ -91,14 +92,14 @@ pub struct Sheet {
 }
 
 // The settings sheet, or that the settings are refused.
-#[derive(Drop)]
+#[derive(Clone, Copy)]
 pub enum SheetAnswer {
     Given(Sheet),
     Refused(Refusal),
 }
 
 // That the settings pass the checks of a call that draws, or the refusal.
-#[derive(Drop)]
+#[derive(Clone, Copy)]
 pub enum SettingsCheck {
     Passed,
     Refused(Fault),

@@ -1,3 +1,4 @@
+#![tactic(auto)]
 // The shift call and the row beside the cut, with what each leaves in its slices of numbers. Each gives the call's status.
 ghost use Rattle.std.specs.Prelude.{◌≡◌, length};
 ghost use Rattle.std.specs.Int.{w32};

@@ -1,3 +1,4 @@
+#![tactic(auto)]
 // The start of a frame: its first state.
 ghost use Rattle.std.specs.Prelude.{◌≡◌, ◌&&◌};
 ghost use Rattle.memory.specs.Word.{bit};
@@ -13,14 +14,14 @@ use state::{Fields, State};
 use windows::{WindowInHand, WindowRead};
 
 // The answer of an accepted start: the words read, and the first state.
-#[derive(Drop)]
+#[derive(Clone, Copy)]
 pub struct Started {
     pub words: u32,
     pub state: State,
 }
 
 // The first state of a frame, or the refusal of its start, which gives none.
-#[derive(Drop)]
+#[derive(Clone, Copy)]
 pub enum StartAnswer {
     Accepted(Started),
     Refused(Refusal),

@@ -1,3 +1,4 @@
+#![tactic(auto)]
 // The state of a frame, and whether it is in range: refusal 3.
 ghost use Rattle.std.specs.Prelude.{◌≡◌};
 ghost use Rattle.state.specs.State.{format_in_range, pointer_in_range, window_in_range, in_range};
@@ -8,7 +9,7 @@ use windows::WindowInHand;
 
 // The state's fields other than the latch: row number, lines left, cursor, fill, format (scan lines, row attributes, CURS,
 // CURE), next row block and the window in hand.
-#[derive(Drop)]
+#[derive(Clone, Copy)]
 pub struct Fields {
     pub row: u32,
     pub left: u16,
@@ -20,7 +21,7 @@ pub struct Fields {
 }
 
 // The state between two rows: the latched attribute, and the other fields.
-#[derive(Drop)]
+#[derive(Clone, Copy)]
 pub struct State {
     pub latch: u16,
     pub fields: Fields,

@@ -1,3 +1,4 @@
+#![tactic(auto)]
 // Rows that no reading of their cells refuses: told before a cell is drawn, and drawn with the addresses of their words noted as they
 // are read. So nothing has to be put back, and no word is looked at again for its address.
 ghost use Rattle.std.specs.Prelude.{◌≡◌, true, false, ◌&&◌, not, ◌+◌, ◌*◌, ◌/◌, ◌≤◌, ◌<◌, length, eqb};
@@ -22,7 +23,7 @@ use noting::Reached;
 pub mod known; // is a row sure?
 
 // A stretch of a row: what it is drawn by, the segments on a side, their source, and the column up to which the fill run after them goes.
-#[derive(Drop)]
+#[derive(Clone, Copy)]
 struct Stretch {
     settings: CodeSettings,
     fill: FillMode,

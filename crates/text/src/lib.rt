@@ -1,3 +1,4 @@
+#![tactic(auto)]
 // The text that the draw program prints, a few lines at a time: a script that was refused, or a frame row by row.
 ghost use Rattle.std.specs.Prelude.{◌≡◌};
 ghost use Rattle.script.specs.Feeding.{stepped, outcome};
@@ -12,7 +13,7 @@ use script::Step;
 use settings::Settings;
 
 // What of a text is still to come.
-#[derive(Drop)]
+#[derive(Clone, Copy)]
 pub enum Text {
     Rows {
         settings: Settings,
@@ -24,7 +25,7 @@ pub enum Text {
 }
 
 // `count` bytes of the text, with the text after them; or that it is at its end.
-#[derive(Drop)]
+#[derive(Clone, Copy)]
 pub enum Lines {
     Written { count: usize, text: Text },
     AtEnd,

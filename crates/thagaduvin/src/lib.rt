@@ -1,3 +1,4 @@
+#![tactic(auto)]
 // A console's calls: settings, state and answers as lent slices of numbers at fixed places (include/thagaduvin.h has the table).
 // The status of a call is 0 where it is accepted, else the number of document 01's refusal, or 255: a slice of the wrong length, or
 // a number that no field can have. Then nothing is written.

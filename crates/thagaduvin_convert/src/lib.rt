@@ -1,3 +1,4 @@
+#![tactic(auto)]
 // A console's call that converts a segmented list (libthagaduvin_convert.a), over slices and with statuses as thagaduvin's. It stands apart
 // from libthagaduvin.a so that its rows keep their time: it has the code of a row in it once more.
 ghost use Rattle.std.specs.Prelude.{◌≡◌, length};

@@ -1,3 +1,4 @@
+#![tactic(auto)]
 // A console's calls on effects of rows (libthagaduvin_effect.a), over slices and with statuses as thagaduvin's. They stand apart from
 // libthagaduvin.a so that its rows keep their time: an effect has the plan of a row in it once more.
 ghost use Rattle.std.specs.Prelude.{◌≡◌};

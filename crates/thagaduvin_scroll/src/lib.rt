@@ -1,3 +1,4 @@
+#![tactic(auto)]
 // A console's calls of a soft scroll (libthagaduvin_scroll.a), over slices and with statuses as thagaduvin's. They stand apart from
 // libthagaduvin.a so that its rows keep their time: the row beside the cut has the code of a row in it once more.
 ghost use Rattle.std.specs.Prelude.{◌≡◌};

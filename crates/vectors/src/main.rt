@@ -1,3 +1,4 @@
+#![tactic(auto)]
 // Draws scripts from files, and compares what is drawn with stored output, byte by byte.
 ghost use Rattle.std.specs.Prelude.{◌≡◌, ◌≤◌, length, take};
 ghost use Rattle.io.specs.Counts.{IsPrefixLen};
@@ -7,7 +8,7 @@ use script::Step;
 use text::Lines;
 
 // How far the output agrees with the stored bytes, and whether it differs there.
-#[derive(Drop)]
+#[derive(Clone, Copy)]
 struct Place {
     at: usize,
     differs: bool,

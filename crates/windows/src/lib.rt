@@ -1,3 +1,4 @@
+#![tactic(auto)]
 // Window blocks, and the window in hand.
 ghost use Rattle.std.specs.Prelude.{◌≡◌, ◌&&◌, ◌≤◌, leb};
 ghost use Rattle.memory.specs.Reading.{run};
@@ -7,7 +8,7 @@ ghost use Rattle.windows.specs.Answers.{window_read, Numbered};
 use memory::{Fault, Pointer, WordsRead};
 
 // What a window keeps while it is in hand: its number along the chain, its rows and columns, first and last, and the next window block.
-#[derive(Drop)]
+#[derive(Clone, Copy)]
 pub struct WindowBlock {
     pub number: u8,
     pub top: u8,
@@ -18,21 +19,21 @@ pub struct WindowBlock {
 }
 
 // A window: its block, and its next row block.
-#[derive(Drop)]
+#[derive(Clone, Copy)]
 pub struct Window {
     pub block: WindowBlock,
     pub rows: Pointer,
 }
 
 // The window in hand, or that there is none.
-#[derive(Drop)]
+#[derive(Clone, Copy)]
 pub enum WindowInHand {
     Absent,
     Present(Window),
 }
 
 // The window in hand with the words read for it, or a refusal.
-#[derive(Drop)]
+#[derive(Clone, Copy)]
 pub enum WindowRead {
     Read { window: WindowInHand, words: u32 },
     Refused(Fault),

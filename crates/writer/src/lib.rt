@@ -1,3 +1,4 @@
+#![tactic(auto)]
 // The writer call of two desks on one memory: one word, in the writer's own span.
 ghost use Rattle.std.specs.Prelude.{◌≡◌};
 ghost use Rattle.writer.specs.Writer.{share, may_write, wrote, refused_with, write_word};
@@ -5,14 +6,14 @@ ghost use Rattle.writer.specs.Writer.{share, may_write, wrote, refused_with, wri
 use memory::Refusal;
 
 // A desk's part of memory: its first and its last byte address, both in it. A first one above the last is an empty span.
-#[derive(Drop)]
+#[derive(Clone, Copy)]
 pub struct Span {
     pub first: u32,
     pub last: u32,
 }
 
 // What a writer call answers: the word is written, or a refusal, 16 or 15, and nothing is.
-#[derive(Drop)]
+#[derive(Clone, Copy)]
 pub enum WriteAnswer {
     Written,
     Refused(Refusal),
