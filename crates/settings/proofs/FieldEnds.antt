@@ -11,7 +11,6 @@ use Rattle.settings.specs.declared.Interlace.TheVariants.{Progressive, RepeatFie
 use Rattle.settings.specs.declared.Field.{Field}
 use Rattle.settings.specs.declared.Field.TheVariants.{Even, Odd}
 use Rattle.settings.specs.declared.Settings.{Settings}
-use Rattle.settings.specs.declared.Sheet.{Sheet}
 use Rattle.settings.specs.Good.{good, fits_fields, fits_mode}
 use Rattle.settings.specs.Timing.{timing, half_lines}
 use Rattle.settings.specs.Sheet.{sheet_of}

@@ -1,8 +1,8 @@
 -- Document 01, "Settings and memory", and document 02, §5: when settings are good.
-use Rattle.std.specs.Prelude.{ℕ, ◌-◌, ◌%◌, ◌<◌, ◌≤◌, Bool, true, false, ◌&&◌, ltb, leb, eqb}
+use Rattle.std.specs.Prelude.{ℕ, ◌-◌, ◌%◌, ◌<◌, ◌≤◌, Bool, true, ◌&&◌, ltb, leb, eqb}
 use Rattle.std.specs.Int.Bits.{bit_and}
 use Rattle.memory.specs.Word.{if◌then◌else◌, high, low}
-use Rattle.memory.specs.Reading.{Reading, ◌>>=◌, ◌>>◌, check}
+use Rattle.memory.specs.Reading.{Reading, ◌>>◌, check}
 use Rattle.settings.specs.declared.Interlace.{Interlace}
 use Rattle.settings.specs.declared.Interlace.TheVariants.{Progressive, RepeatField, Video}
 use Rattle.settings.specs.declared.Edition.{Edition}
