@@ -1,0 +1,34 @@
+-- The head, then the redefinition pointer, then the segments: each step is one of the reading.
+use mathlib.Core.Path.{sym, ◌∙◌}
+use borrow.Author.Tests.{eq-eqb, ne_eqb}
+use Rattle.memory.proofs.Laws.{step-refused, run-done}
+use Rattle.memory.proofs.WordLaws.{read_whole, read-refused}
+use Rattle.memory.proofs.Roles.{run-as}
+use Rattle.blocks.specs.RowBlock.{segments_at, block_at}
+use Rattle.blocks.proofs.BlockLaws.{block_read, block_refused}
+use Rattle.blocks.proofs.block_at.Goals as goal
+
+pub returns-then-p-eq0 : goal.returns-then-p-eq0
+unfolding block_at segments_at
+returns-then-p-eq0 c = rw (eq-eqb _ 0 c.if-p-eq0.true) (sym (run-done _ _ _))
+
+pub returns-in-Read : goal.returns-in-Read
+unfolding block_at
+returns-in-Read c =
+    let r = c.read_words in
+    rw (ne_eqb _ 0 c.if-p-eq0.false)
+    (c.segments_from.ensures
+    ∙ block_read _ _ c.args.redefines _ _ (read_whole _ _ 3 _ _ _ r.ensures c.in-Whole.is r.auto.into) _ c.is_pointed-pointed.ensures _ c.redefinition_pointer.ensures _ _ c.in-Read.is c.words_before-words.ensures)
+
+pub returns-in-Refused-redefinition_pointer : goal.returns-in-Refused-redefinition_pointer
+unfolding block_at
+returns-in-Refused-redefinition_pointer c =
+    let r = c.read_words in
+    rw (ne_eqb _ 0 c.if-p-eq0.false)
+    (block_refused _ _ c.args.redefines _ _ (read_whole _ _ 3 _ _ _ r.ensures c.in-Whole.is r.auto.into) _ c.is_pointed-pointed.ensures _ c.redefinition_pointer.ensures _ c.in-Refused-redefinition_pointer.is)
+
+pub returns-in-Refused : goal.returns-in-Refused
+unfolding block_at
+returns-in-Refused c =
+    let r = c.read_words in
+    rw (ne_eqb _ 0 c.if-p-eq0.false) (sym (step-refused 0 _ _ _ (run-as _ _ _ _ ∙ read-refused _ _ 3 _ _ _ r.ensures c.in-Refused.is)))
