@@ -16,8 +16,8 @@ use Rattle.panel.specs.declared.Placed.{Placed}
 use Rattle.panel.specs.declared.Placed.TheVariants.{Nowhere, At}
 use Rattle.panel.specs.declared.Background.{Background}
 use Rattle.panel.specs.declared.Background.TheVariants.{Nothing, Row, Above}
-use Rattle.panel.specs.Line.{place_at, place, row_at, above_at, is_down, background, still, line}
-use Rattle.panel.specs.Lines.{Tall, next, next_background, Follows, Unshifted, on}
+use Rattle.panel.specs.Line.{place_at, place, row_at, above_at, is_down, background}
+use Rattle.panel.specs.Lines.{Tall, next, next_background, Follows, Unshifted}
 use Rattle.panel.proofs.FollowLaws.{first-place, place-follows, place-within, place-first, place_none}
 
 pub unshifted : Unshifted
