@@ -1,0 +1,9 @@
+-- Every field is the definition's.
+use Rattle.std.proofs.Common.{refl}
+use Rattle.script.specs.Script.{unset}
+use Rattle.script.proofs.no_settings.Goals as goal
+
+-- Every field is the definition's.
+pub returns : goal.returns
+unfolding unset
+returns c = refl
