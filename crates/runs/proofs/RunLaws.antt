@@ -10,13 +10,13 @@ use lib.Dec.{ltb, leb-suc-zero}
 use borrow.Author.Tests.{ltb-true, ltb-false, lt-ltb, le-ltb}
 use Rattle.memory.specs.declared.Fetch.TheVariants.{Word}
 use Rattle.memory.specs.Word.{if◌then◌else◌, high, low}
-use Rattle.memory.specs.Reading.{◌>>=◌, each, fetch, given, run_from, run}
+use Rattle.memory.specs.Reading.{◌>>=◌, each, fetch, given, run_from}
 use Rattle.memory.specs.declared.Pointer.{Pointer}
 use Rattle.memory.specs.Address.{ahead, onward}
 use Rattle.memory.specs.Answers.{is_run}
 use Rattle.memory.proofs.Laws.{bind-given, run-done, ask-word, step_same, each_append}
 use Rattle.memory.proofs.RunLaws.{ahead_more, run_ends, run-fetch}
-use Rattle.memory.proofs.ReadBounds.{both, if-cases}
+use Rattle.memory.proofs.ReadBounds.{if-cases}
 use Rattle.codes.specs.declared.CodeSettings.{CodeSettings}
 use Rattle.codes.specs.declared.Source.{Source}
 use Rattle.codes.specs.declared.Pen.{Pen}
