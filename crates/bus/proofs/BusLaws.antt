@@ -8,7 +8,7 @@ use lib.Dec.{leb}
 use borrow.Author.Tests.{ne_eqb, ltb-true, leb-true, leb-false, lt-ltb, le-ltb}
 use Rattle.memory.proofs.ReadBounds.{both}
 use Rattle.bus.specs.declared.Totals.{Totals}
-use Rattle.bus.specs.Bus.{burst_space, burst_count, bursts, gaps, released, fits, all_fit}
+use Rattle.bus.specs.Bus.{burst_space, burst_count, bursts, gaps, fits, all_fit}
 
 -- ---- the bursts of a row ----
 module _ (burst : ℕ) where

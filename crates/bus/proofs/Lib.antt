@@ -1,4 +1,3 @@
 pub mod BusLaws
-mod Machine
 pub mod NumberLaws
 pub mod Reports

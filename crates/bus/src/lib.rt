@@ -52,7 +52,7 @@ pub struct Reported {
 
 // A row's answer. Unless it is refused, the totals are brought up to date where they stand.
 pub fn report(totals: &mut Totals, row: BusRow) -> BusAnswer
-    ensures { record { totals = totals.exit.now; answer = result } ≡ reported totals.entry.now row }
+    ensures { record { totals = totals.new; answer = result } ≡ reported totals.old row }
 {
     let r = count_row(*totals, row);
     *totals = r.totals;
