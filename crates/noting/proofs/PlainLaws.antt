@@ -13,7 +13,7 @@ use Rattle.memory.specs.Word.{high, low}
 use Rattle.memory.specs.declared.Fetch.TheVariants.{Word}
 use Rattle.memory.specs.declared.Pointer.{Pointer}
 use Rattle.memory.specs.Address.{next_word, ahead, onward, further}
-use Rattle.memory.specs.Reading.{Reading, done, refuse, ask, word, asking, ◌>>=◌, each, fetch, given}
+use Rattle.memory.specs.Reading.{Reading, done, refuse, ask, asking, ◌>>=◌, each, fetch, given}
 use Rattle.memory.specs.Answers.{is_run}
 use Rattle.memory.proofs.RunLaws.{run_ends, run-ahead, run-fetch}
 use Rattle.memory.proofs.ReadBounds.{if-cases}

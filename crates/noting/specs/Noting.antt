@@ -1,5 +1,5 @@
 -- A reading whose addresses are noted in a list as its words are read: what the functions of this crate leave, no rules of their own.
-use Rattle.std.specs.Prelude.{ℕ, zero, suc, ◌+◌, ◌/◌, Bool, true, false, ◌||◌, List, [], ◌∷◌, length, get_or, set, ltb}
+use Rattle.std.specs.Prelude.{ℕ, zero, suc, ◌+◌, ◌/◌, Bool, false, ◌||◌, List, [], ◌∷◌, length, get_or, set, ltb}
 use Rattle.memory.specs.Word.{if◌then◌else◌, high, low}
 use Rattle.memory.specs.declared.Pointer.{Pointer}
 use Rattle.memory.specs.Address.{next_word}
