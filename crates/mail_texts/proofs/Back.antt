@@ -1,19 +1,15 @@
 -- A row's text is read back: each cell is found, since what stands before it tells its marks, and at the row's end there is none.
-use mathlib.Core.Path.{◌≡◌, refl, sym, ap, ◌∙◌}
-use mathlib.Core.Bool.{Bool, true, false, ◌&&◌}
-use mathlib.Core.List.{List, [], ◌∷◌, ◌++◌, append_assoc, append-nil}
-use Prim.Native.Nat.{ℕ, zero, suc, ◌+◌, ◌*◌, ◌/◌, ◌%◌, ◌<◌, ◌≤◌, max}
+use mathlib.Core.Path.{◌≡◌, refl, sym, ◌∙◌}
+use mathlib.Core.List.{List, [], ◌∷◌, ◌++◌}
+use Prim.Native.Nat.{ℕ, zero, suc, ◌≤◌}
 use native.Mathlib.Omega.{arith}
-use lib.ListN.{length, take, drop}
-use lib.Dec.{eqb}
+use lib.ListN.{drop}
 use borrow.Author.Tests.{ne_eqb}
-use Rattle.memory.specs.Word.{if◌then◌else◌}
-use Rattle.mail.specs.Mail.{is_character, marked, character_of, marks_of, change, row_start, row_end, cells_text, row_text}
-use Rattle.mail.specs.Texts.{Each, IsCell, RowCells}
-use Rattle.mail.proofs.TextLaws.{character-range}
+use Rattle.mail.specs.Mail.{character_of, marks_of, change, row_end, cells_text}
+use Rattle.mail.specs.Texts.{IsCell}
 use Rattle.mail_reader.specs.declared.Next.{Next}
 use Rattle.mail_reader.specs.declared.Next.TheVariants.{Cell, Stops}
-use Rattle.mail_reader.specs.Reader.{common, next_cell, Outcome, row, stops, joined, ended, turn, cells_read, read_row}
+use Rattle.mail_reader.specs.Reader.{common, next_cell, row, ended, turn, cells_read}
 use Rattle.mail_texts.proofs.Unique.{same-cell, no_end}
 use Rattle.mail_texts.proofs.NextLaws.{Says, says}
 use Rattle.mail_texts.proofs.Rows.{Fits}

@@ -6,11 +6,10 @@ use Prim.Native.Nat.{ℕ, zero, suc, ◌+◌, ◌<◌, ◌≤◌, max}
 use native.Mathlib.Omega.{arith}
 use native.Mathlib.Decide.{ℕ_discrete, dec_le}
 use native.Mathlib.Numerals.{add-one}
-use lib.ListN.{length, get_or, take, drop, get_or-eq_default}
+use lib.ListN.{length, get_or, drop, get_or-eq_default}
 use lib.Seq.{drop-cons, get_or-drop, get_or-append_seam}
 use lib.Dec.{eqb}
 use borrow.Author.Tests.{eqb-true, eqb-false, eq-eqb}
-use Rattle.memory.specs.Word.{if◌then◌else◌}
 use Rattle.memory.proofs.ReadBounds.{if-cases, both}
 use Rattle.mail.specs.Mail.{is_character, marked, change}
 use Rattle.mail_reader.specs.declared.Next.{Next}

@@ -1,17 +1,16 @@
 -- What the reader gives of the cells after the start of a row: it is right for the last cell, and each cell before keeps it so.
 use mathlib.Core.Path.{◌≡◌, refl, sym, ap, ◌∙◌}
-use mathlib.Core.Bool.{Bool, true, false, ◌&&◌}
-use mathlib.Core.List.{List, [], ◌∷◌, ◌++◌, append_assoc, append-nil}
+use mathlib.Core.Bool.{true, ◌&&◌}
+use mathlib.Core.List.{List, [], ◌∷◌, ◌++◌, append_assoc}
 use Prim.Native.Nat.{ℕ, zero, suc, ◌+◌, ◌<◌, ◌≤◌, max}
 use native.Mathlib.Omega.{arith}
 use native.Mathlib.Decide.{ℕ_discrete, dec_le}
-use lib.ListN.{length, take, drop, length-append, length-drop, drop_of_length-le}
-use lib.Seq.{drop_at}
+use lib.ListN.{length, drop, length-append, drop_of_length-le}
 use lib.Dec.{eqb}
 use borrow.Author.Tests.{eqb-true, eqb-false}
 use Rattle.memory.specs.Word.{if◌then◌else◌}
 use Rattle.memory.proofs.ReadBounds.{if-cases, both}
-use Rattle.mail.specs.Mail.{is_character, marked, character_of, marks_of, change, row_end, cells_text}
+use Rattle.mail.specs.Mail.{marked, character_of, marks_of, change, row_end, cells_text}
 use Rattle.mail.specs.Texts.{Each, IsCell}
 use Rattle.mail.proofs.TextLaws.{character-range, parts}
 use Rattle.mail_reader.specs.declared.Next.{Next}

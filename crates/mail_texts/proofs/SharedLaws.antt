@@ -1,5 +1,5 @@
 -- The longest beginning that two texts share, and what it says of them.
-use mathlib.Core.Path.{◌≡◌, refl, sym, ap, ◌∙◌}
+use mathlib.Core.Path.{◌≡◌, refl, ap}
 use mathlib.Core.Bool.{Bool, true, false}
 use mathlib.Core.List.{List, [], ◌∷◌, ◌++◌}
 use Prim.Native.Nat.{ℕ, zero, suc, ◌+◌, ◌<◌, ◌≤◌}
@@ -8,7 +8,6 @@ use lib.ListN.{length, take, drop, take-append-drop}
 use lib.Dec.{eqb}
 use borrow.Author.Tests.{eqb-true, eq-eqb, ne_eqb}
 use Rattle.memory.specs.Word.{if◌then◌else◌}
-use Rattle.memory.proofs.ReadBounds.{if-cases}
 use Rattle.mail_reader.specs.Reader.{common}
 use Rattle.mail_texts.specs.Shared.{Begins}
 

@@ -1,6 +1,5 @@
 -- Rows of cells and the texts that the writer writes are the same thing: for any cells of a row there are settings and a row buffer.
 use mathlib.Core.Path.{◌≡◌, refl, sym, ap, ◌∙◌}
-use mathlib.Core.Bool.{Bool, true, false, ◌&&◌}
 use mathlib.Core.List.{List, [], ◌∷◌, ◌++◌, map}
 use Prim.Native.Nat.{ℕ, zero, suc, ◌+◌, ◌-◌, ◌*◌, ◌/◌, ◌%◌, ◌^◌, ◌<◌, ◌≤◌}
 use native.Mathlib.Omega.{arith}
@@ -8,11 +7,10 @@ use lib.ListN.{length, take, replicate, length-append, length-map, length-replic
 use lib.Seq.{take_at}
 use lib.Dec.{lit<}
 use Rattle.codes.specs.Attribute.{code_of, attribute_of}
-use Rattle.settings.specs.declared.Settings.{Settings}
-use Rattle.settings.specs.Good.{good, shown_columns}
-use Rattle.mail.specs.Mail.{is_character, character_for, marks_for, marked, character_of, marks_of, text_cell, row_text, shown_cells, mail_text}
+use Rattle.settings.specs.Good.{shown_columns}
+use Rattle.mail.specs.Mail.{marks_for, character_of, marks_of, text_cell, row_text, shown_cells}
 use Rattle.mail.specs.Texts.{Each, IsCell, RowCells, WrittenText}
-use Rattle.mail.proofs.Below.{Below, below}
+use Rattle.mail.proofs.Below.{below}
 use Rattle.mail.proofs.TextLaws.{character-range}
 use Rattle.mail.proofs.CellLaws.{showing, showing-good, showing-columns, shown-are-cells}
 

@@ -1,25 +1,24 @@
 -- Document 02, §12, on the reader: a written text is read back; it accepts exactly the written texts; and 24's offset is the length of the
 -- longest beginning of the text that some written text also has.
-use mathlib.Core.Path.{◌≡◌, refl, sym, ap, ◌∙◌}
-use mathlib.Core.Bool.{Bool, true, false}
+use mathlib.Core.Path.{◌≡◌, refl, ap, ◌∙◌}
+use mathlib.Core.Bool.{true}
 use mathlib.Core.List.{List, [], ◌∷◌, ◌++◌}
-use Prim.Native.Nat.{ℕ, zero, suc, ◌+◌, ◌<◌, ◌≤◌}
+use Prim.Native.Nat.{ℕ, ◌+◌, ◌<◌, ◌≤◌}
 use native.Mathlib.Omega.{arith}
-use lib.ListN.{length, take, drop}
+use lib.ListN.{length, drop}
 use lib.Dec.{eqb, lit<, lit≤}
-use borrow.Author.Tests.{eqb-true, eqb-false, eq-eqb}
-use Rattle.memory.specs.Word.{if◌then◌else◌}
+use borrow.Author.Tests.{eqb-true, eqb-false}
 use Rattle.memory.proofs.ReadBounds.{if-cases}
 use Rattle.settings.specs.declared.Settings.{Settings}
 use Rattle.settings.specs.Good.{good}
 use Rattle.mail.specs.Mail.{row_start, cells_text, row_text, shown_cells, mail_text}
-use Rattle.mail.specs.Texts.{IsCell, RowCells, WrittenText}
+use Rattle.mail.specs.Texts.{RowCells, WrittenText}
 use Rattle.mail.proofs.CellLaws.{shown-are-cells}
 use Rattle.mail_reader.specs.Reader.{common, Outcome, row, stops, joined, cells_read, read_row}
 use Rattle.mail_reader.proofs.CommonLaws.{common-left, common-right}
-use Rattle.mail_texts.specs.Shared.{Begins, LongestShared, Reads}
+use Rattle.mail_texts.specs.Shared.{LongestShared, Reads}
 use Rattle.mail_texts.proofs.SharedLaws.{common-append, common-after, shares-all, shared-begins, begins-shared}
-use Rattle.mail_texts.proofs.Rows.{Fits, Reaches, CellsRead, cells-read}
+use Rattle.mail_texts.proofs.Rows.{Fits, CellsRead, cells-read}
 use Rattle.mail_texts.proofs.Back.{cells-back}
 use Rattle.mail_texts.proofs.Texts.{row_written, written_row}
 

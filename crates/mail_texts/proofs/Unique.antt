@@ -2,14 +2,14 @@
 use mathlib.Core.Path.{◌≡◌, refl, sym, ap, ◌∙◌}
 use mathlib.Core.Bool.{Bool, true, false}
 use mathlib.Core.List.{List, [], ◌∷◌, ◌++◌}
-use Prim.Native.Nat.{ℕ, zero, suc, ◌+◌, ◌<◌, ◌≤◌}
+use Prim.Native.Nat.{ℕ, ◌+◌, ◌<◌}
 use native.Mathlib.Omega.{arith}
 use lib.ListN.{drop}
 use lib.Dec.{eqb}
 use borrow.Author.Tests.{eqb-true, ne_eqb}
 use Rattle.memory.specs.Word.{if◌then◌else◌}
 use Rattle.mail.specs.Mail.{is_character, sequence, change, row_end}
-use Rattle.mail.proofs.Below.{Below, below}
+use Rattle.mail.proofs.Below.{below}
 use Rattle.mail.proofs.TextLaws.{character-range}
 
 -- marks, and the text after them
