@@ -2,8 +2,7 @@
 use mathlib.Core.Path.{◌≡◌}
 use mathlib.Core.Bool.{Bool, true, false, ◌&&◌}
 use mathlib.Core.List.{List, [], ◌∷◌}
-use Prim.Native.Nat.{ℕ, zero, suc, ◌+◌, ◌<◌}
-use native.Mathlib.Omega.{arith}
+use Prim.Native.Nat.{ℕ, zero, suc, ◌+◌}
 use lib.ListN.{take}
 use lib.Dec.{ltb}
 use Rattle.memory.specs.declared.Fault.{Fault}
@@ -21,7 +20,7 @@ use Rattle.codes.specs.declared.CodeSettings.{CodeSettings}
 use Rattle.codes.specs.declared.Source.{Source}
 use Rattle.codes.specs.Attribute.{Background, Window, invokes, latches}
 use Rattle.codes.specs.Codes.{Drawing, drawing, list_at, no_list, with_list, taking, character, examine, word_codes, codes}
-use Rattle.cells.specs.Cells.{code_count, filled, unlatched, fill_by_word, fill_to, segment, segments_to, row_cells}
+use Rattle.cells.specs.Cells.{filled, unlatched, fill_by_word, fill_to, segment, segments_to, row_cells}
 use Rattle.holding.proofs.Holds.{Each, Holds, dones, refuses, asks, bind, if-holds, each_holds}
 
 -- of any elements: nothing is asked of them
