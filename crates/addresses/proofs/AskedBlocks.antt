@@ -7,7 +7,7 @@ use native.Mathlib.Omega.{arith}
 use native.Mathlib.Nat.{zero-add}
 use lib.ListN.{length, get_or}
 use lib.Dec.{ltb, leb, lit<}
-use Rattle.memory.specs.Word.{if◌then◌else◌, bit, at}
+use Rattle.memory.specs.Word.{when◌then◌else◌, bit, at}
 use Rattle.memory.specs.declared.Pointer.{Pointer}
 use Rattle.memory.specs.Reading.{Reading, done, ◌>>=◌, ◌>>◌, read_as, one_pointer, check_of, check}
 use Rattle.memory.specs.Address.{nothing, pointer, null, next_word, ahead, onward, further, words}
@@ -87,8 +87,8 @@ module _ (m : List ℕ) (l : Bool) where
       w₁ ws = window_of l number p.address ws
 
       by : (b : Bool) {xs : List ℕ} {w : WindowInHand}
-          → Trace m (if b then done Absent else (read_as two_pointers (words l 6 p) >>= λ ws. check_of 8 p (in_order (w₁ ws).block && leb least (w₁ ws).block.top) >>= λ _. done (Present (w₁ ws)))) xs w
-          → WindowAsked (if b then [] else in_turn l 6 p.address) (pointer_in l m 2 p.address) xs w
+          → Trace m (when b then done Absent else (read_as two_pointers (words l 6 p) >>= λ ws. check_of 8 p (in_order (w₁ ws).block && leb least (w₁ ws).block.top) >>= λ _. done (Present (w₁ ws)))) xs w
+          → WindowAsked (when b then [] else in_turn l 6 p.address) (pointer_in l m 2 p.address) xs w
       by true dones = record { addresses = refl; block = λ x e. absent x e }
       by false t =
           let r = parts (read_as two_pointers (words l 6 p)) _ t in
@@ -107,8 +107,8 @@ module _ (m : List ℕ) (l : Bool) where
   due-asked row (Present v) t = by (ltb v.block.bottom row) t
     where
       by : (b : Bool) {xs : List ℕ} {w : WindowInHand}
-          → Trace m (if b then window_at l (v.block.number + 1) (v.block.bottom + 1) v.block.link else done (Present v)) xs w
-          → WindowAsked (pointed l 6 (if b then v.block.link else nothing)) (if b then pointer_in l m 2 v.block.link.address else v.rows) xs w
+          → Trace m (when b then window_at l (v.block.number + 1) (v.block.bottom + 1) v.block.link else done (Present v)) xs w
+          → WindowAsked (pointed l 6 (when b then v.block.link else nothing)) (when b then pointer_in l m 2 v.block.link.address else v.rows) xs w
       by true t = window-asked _ _ v.block.link t
       by false dones = record { addresses = refl; block = λ x e. ap (λ (y : Window). y.rows) (sym (present-same v x e)) }
 
@@ -160,22 +160,22 @@ module _ (m : List ℕ) (l : Bool) where
       w : ℕ
       w = head_word l m p
 
-      chosen : (t : Bool) (k : ℕ) → k ≡ (if t then 2 else 0) → {ys : List ℕ} {b : RowBlock} → RestAsked p w k ys b
-          → b.redefinition ≡ (if t then pointer_in l m 3 p.address else nothing)
+      chosen : (t : Bool) (k : ℕ) → k ≡ (when t then 2 else 0) → {ys : List ℕ} {b : RowBlock} → RestAsked p w k ys b
+          → b.redefinition ≡ (when t then pointer_in l m 3 p.address else nothing)
       chosen true k e q = q.with-pointer e
       chosen false k e q = q.without e
 
       by : (t : Bool) → null p ≡ t → {xs : List ℕ} {b : RowBlock}
-          → Trace m (if t then done no_block else (read_as one_pointer (words l 3 p) >>= λ head. rest_of_block l p head (if redefines && bit 15 (at head 2) then 2 else 0))) xs b
+          → Trace m (when t then done no_block else (read_as one_pointer (words l 3 p) >>= λ head. rest_of_block l p head (when redefines && bit 15 (at head 2) then 2 else 0))) xs b
           → BlockAsked redefines p xs b
       by true n dones = record { addresses = rw n; redefinition = λ _. rw n }
       by false n t =
           let r = parts (read_as one_pointer (words l 3 p)) _ t in
           let f = words-asked m l 3 p (trace-as one_pointer (words l 3 p) r.one) in
           let third = f.each 2 (lit< tt) in
-          let k : ℕ = if redefines && bit 15 (at r.result 2) then 2 else 0 in
+          let k : ℕ = when redefines && bit 15 (at r.result 2) then 2 else 0 in
           let q = rest-asked p r.result w k third r.two in
-          let is : k ≡ (if redefines && bit 15 w then 2 else 0) = ap (λ (v : ℕ). if redefines && bit 15 v then 2 else 0) third in
+          let is : k ≡ (when redefines && bit 15 w then 2 else 0) = ap (λ (v : ℕ). when redefines && bit 15 v then 2 else 0) third in
           let sum : 3 + (k + 5 * (w % 16)) ≡ block_words redefines w = rw is (omega arith) in
           record {
             addresses = joined r.sum f.addresses q.addresses ∙ sym (turn-append l 3 (k + 5 * (w % 16)) p.address) ∙ ap (λ (i : ℕ). in_turn l i p.address) sum ∙ rw n;
@@ -187,7 +187,7 @@ module _ (m : List ℕ) (l : Bool) where
   unfolding redefined pointed
   redefined-asked p format u = by (null p) u
     where
-      by : (b : Bool) {xs : List ℕ} {t : RowFormat} → Trace m (if b then done format else (words l 3 p >>= λ ws. done (format_of ws))) xs t → xs ≡ (if b then [] else in_turn l 3 p.address)
+      by : (b : Bool) {xs : List ℕ} {t : RowFormat} → Trace m (when b then done format else (words l 3 p >>= λ ws. done (format_of ws))) xs t → xs ≡ (when b then [] else in_turn l 3 p.address)
       by true dones = refl
       by false u =
           let r = parts (words l 3 p) _ u in
@@ -228,7 +228,7 @@ module _ (m : List ℕ) (σ : Settings) where
   overlaid-asked row (Present x) t = by (leb x.block.top row && leb row x.block.bottom) t
     where
       by : (b : Bool) {xs : List ℕ} {o : Overlaid}
-          → Trace m (if b then window_row σ x else done (record { overlay = none; window = Present x })) xs o
+          → Trace m (when b then window_row σ x else done (record { overlay = none; window = Present x })) xs o
           → xs ≡ pointed σ.linear (block_words false (head_word σ.linear m (rows_for (Present x) o.overlay))) (rows_for (Present x) o.overlay)
       by true t = window-row-asked x t
       by false dones = refl

@@ -5,7 +5,7 @@ use mathlib.Core.Bool.{Bool, true, false, ◌&&◌, ◌||◌, not}
 use Prim.Native.Nat.{ℕ, zero, suc, ◌+◌}
 use lib.ListN.{length, get_or}
 use lib.Dec.{ltb}
-use Rattle.memory.specs.Word.{if◌then◌else◌, high, low}
+use Rattle.memory.specs.Word.{when◌then◌else◌, high, low}
 use Rattle.memory.specs.declared.Pointer.{Pointer}
 use Rattle.memory.specs.Reading.{Reading, done, word, ◌>>=◌, each}
 use Rattle.memory.specs.Address.{onward}
@@ -34,7 +34,7 @@ module _ (σ : CodeSettings) (m : List ℕ) (source : Source) (end : ℕ) where
   -- one code
   abbrev by-test : ℕ → Drawing → Bool → Reading Drawing
   by-test code d b =
-      if b
+      when b
       then (word d.pen.list.next >>= λ w. done (character σ.hidden source end w code (drawing (taking σ.linear w d.pen) d.cells)))
       else done (character σ.hidden source end d.pen.latch code d)
 

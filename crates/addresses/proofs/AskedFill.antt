@@ -9,7 +9,7 @@ use lib.ListN.{length, get_or, replicate, length-append, length-replicate, get_o
 use lib.Seq.{get_or-append-add, get_or-append_seam}
 use lib.Dec.{ltb, eqb}
 use borrow.Author.Tests.{ltb-true, ltb-false, lt-ltb, le-ltb, eq-eqb, ne_eqb}
-use Rattle.memory.specs.Word.{if◌then◌else◌, high, low}
+use Rattle.memory.specs.Word.{when◌then◌else◌, high, low}
 use Rattle.memory.specs.declared.Pointer.{Pointer}
 use Rattle.memory.specs.Reading.{Reading, done, refuse, word, ◌>>=◌, each}
 use Rattle.memory.specs.Address.{onward}
@@ -129,7 +129,7 @@ module _ (m : List ℕ) (σ : CodeSettings) (fill : FillMode) (byte : fill.code 
       w = get_or m (d.pen.list.next.address / 2) 0
 
       last : (v : Bool) {ys : List ℕ} {e : Drawing}
-          → Trace m (if v then done (filled fill end (drawing (taking σ.linear w d.pen) d.cells)) else refuse (unlatched d.pen.list.next)) ys e
+          → Trace m (when v then done (filled fill end (drawing (taking σ.linear w d.pen) d.cells)) else refuse (unlatched d.pen.list.next)) ys e
           → Filled σ.linear fill end d (d.pen.list.next.address ∷ ys) e
       last true dones =
           let e = drawing (taking σ.linear w d.pen) d.cells in
@@ -144,7 +144,7 @@ module _ (m : List ℕ) (σ : CodeSettings) (fill : FillMode) (byte : fill.code 
       last false t = absurd (no-refusal t)
 
   plainly : {xs : List ℕ} {e : Drawing} (b : Bool) → ltb d.pen.column end ≡ true → fill.flag && d.pen.list.present ≡ b
-      → Trace m (if b then fill_by_word σ fill end d else done (filled fill end d)) xs e → Filled σ.linear fill end d xs e
+      → Trace m (when b then fill_by_word σ fill end d else done (filled fill end d)) xs e → Filled σ.linear fill end d xs e
   plainly true h b t = by_word h b t
   plainly false h b dones = record {
     addresses = rw b;
@@ -156,7 +156,7 @@ module _ (m : List ℕ) (σ : CodeSettings) (fill : FillMode) (byte : fill.code 
   }
 
   runs : {xs : List ℕ} {e : Drawing} (r : Bool) → ltb d.pen.column end ≡ r
-      → Trace m (if r then (if fill.flag && d.pen.list.present then fill_by_word σ fill end d else done (filled fill end d)) else done d) xs e
+      → Trace m (when r then (when fill.flag && d.pen.list.present then fill_by_word σ fill end d else done (filled fill end d)) else done d) xs e
       → Filled σ.linear fill end d xs e
   runs true h t = plainly (fill.flag && d.pen.list.present) h refl t
   runs false h dones =

@@ -4,7 +4,7 @@ use mathlib.Core.List.{List, [], ◌∷◌, ◌++◌}
 use mathlib.Core.Bool.{Bool, true, false}
 use Prim.Native.Nat.{ℕ, ◌+◌, ◌-◌, ◌*◌, ◌<◌, ◌≤◌}
 use native.Mathlib.Nat.{add-zero}
-use Rattle.memory.specs.Word.{if◌then◌else◌}
+use Rattle.memory.specs.Word.{when◌then◌else◌}
 use Rattle.blocks.specs.declared.FillMode.{FillMode}
 use Rattle.blocks.specs.declared.Segment.{Segment}
 use Rattle.blocks.specs.declared.SegmentCount.{SegmentCount}
@@ -30,7 +30,7 @@ module _ (σ : CodeSettings) (m : List ℕ) (fill : FillMode) (cs : List ℕ) (s
   after = segments_on side σ.hidden (s + width σ.hidden turn) (segments_past σ.linear count ws (i + 1))
 
   abbrev pub column : ℕ
-  column = c + (if chosen then width σ.hidden turn else 0)
+  column = c + (when chosen then width σ.hidden turn else 0)
 
   pub side-addresses : i < count.number → side_addresses σ m fill cs c here ≡ chosen_addresses σ m fill cs chosen c turn ++ side_addresses σ m fill cs column after
   unfolding segments_on side_addresses
@@ -38,8 +38,8 @@ module _ (σ : CodeSettings) (m : List ℕ) (fill : FillMode) (cs : List ℕ) (s
       ap (λ (gs : List Segment). side_addresses σ m fill cs c (segments_on side σ.hidden s gs)) (segments-more σ.linear count ws i h) ∙ by chosen
     where
       by : (b : Bool)
-          → side_addresses σ m fill cs c (if b then turn ∷ after else after)
-          ≡ chosen_addresses σ m fill cs b c turn ++ side_addresses σ m fill cs (c + (if b then width σ.hidden turn else 0)) after
+          → side_addresses σ m fill cs c (when b then turn ∷ after else after)
+          ≡ chosen_addresses σ m fill cs b c turn ++ side_addresses σ m fill cs (c + (when b then width σ.hidden turn else 0)) after
       by true = refl
       by false = rw (add-zero c)
 
@@ -50,8 +50,8 @@ module _ (σ : CodeSettings) (m : List ℕ) (fill : FillMode) (cs : List ℕ) (s
       ap (λ (gs : List Segment). side_list σ m fill cs c (segments_on side σ.hidden s gs) l) (segments-more σ.linear count ws i h) ∙ by chosen
     where
       by : (b : Bool)
-          → side_list σ m fill cs c (if b then turn ∷ after else after) l
-          ≡ side_list σ m fill cs (c + (if b then width σ.hidden turn else 0)) after (chosen_list σ m fill cs b c turn l)
+          → side_list σ m fill cs c (when b then turn ∷ after else after) l
+          ≡ side_list σ m fill cs (c + (when b then width σ.hidden turn else 0)) after (chosen_list σ m fill cs b c turn l)
       by true = refl
       by false = rw (add-zero c)
 

@@ -6,7 +6,7 @@ use Prim.Native.Nat.{ℕ, zero, suc, ◌+◌, ◌/◌, ◌<◌}
 use native.Mathlib.Omega.{arith}
 use lib.ListN.{length, get_or}
 use lib.Dec.{ltb}
-use Rattle.memory.specs.Word.{if◌then◌else◌}
+use Rattle.memory.specs.Word.{when◌then◌else◌}
 use Rattle.memory.specs.declared.Fault.{Fault}
 use Rattle.memory.specs.declared.Pointer.{Pointer}
 use Rattle.memory.specs.Reading.{Role, read_as, Ask, Reading, done, refuse, ask, absent, ◌>>=◌, check, check_of, Outcome, given, refused, run_from, asked}
@@ -21,8 +21,8 @@ pub data Trace {A : Type 0} (m : List ℕ) : Reading A → List ℕ → A → Ty
 
 turn : {A : Type 0} (b : Bool) (n : ℕ) (m : List ℕ) (q : Ask) (f : ℕ → Reading A) {k : ℕ} {a : A}
     → (run_from n m (f (get_or m (q.address / 2) 0)) ≡ given k a → Trace m (f (get_or m (q.address / 2) 0)) (asked m (f (get_or m (q.address / 2) 0))) a)
-    → (if b then run_from n m (f (get_or m (q.address / 2) 0)) else refused (absent q)) ≡ given k a
-    → Trace m (ask q f) (q.address ∷ (if b then asked m (f (get_or m (q.address / 2) 0)) else [])) a
+    → (when b then run_from n m (f (get_or m (q.address / 2) 0)) else refused (absent q)) ≡ given k a
+    → Trace m (ask q f) (q.address ∷ (when b then asked m (f (get_or m (q.address / 2) 0)) else [])) a
 turn true n m q f rest e = asks (rest e)
 turn false n m q f rest e = let z : ◌≡◌ {A = ℕ} 0 1 = cc in absurd (omega arith)
 

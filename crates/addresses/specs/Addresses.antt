@@ -1,7 +1,7 @@
 -- The addresses of the words that an accepted start or row reads, in order, told from what it was planned from and from its cells: what the
 -- functions of this crate write, no rules of their own. That these are the addresses the definitions ask for is proved (proofs/Asked.antt).
 use Rattle.std.specs.Prelude.{ℕ, zero, suc, ◌+◌, ◌-◌, ◌*◌, ◌/◌, ◌%◌, Bool, true, false, ◌&&◌, List, [], ◌∷◌, ◌++◌, length, get_or, ltb, eqb}
-use Rattle.memory.specs.Word.{if◌then◌else◌, bit, high, low}
+use Rattle.memory.specs.Word.{when◌then◌else◌, bit, high, low}
 use Rattle.memory.specs.declared.Pointer.{Pointer}
 use Rattle.memory.specs.Address.{nothing, pointer, null, ahead, onward}
 use Rattle.settings.specs.declared.Settings.{Settings}
@@ -33,14 +33,14 @@ word_in m a = get_or m (a / 2) 0
 
 -- n words from a pointer on; none where it is null
 unfoldable pub pointed : Bool → ℕ → Pointer → List ℕ
-pointed linear n p = if null p then [] else in_turn linear n p.address
+pointed linear n p = when null p then [] else in_turn linear n p.address
 
 -- the third word of the block at p, and the words of a block with that word
 abbrev pub head_word : Bool → List ℕ → Pointer → ℕ
 head_word linear m p = word_in m (ahead linear 2 p.address)
 
 abbrev pub block_words : Bool → ℕ → ℕ
-block_words redefines w = 3 + (if redefines && bit 15 w then 2 else 0) + 5 * (w % 16)
+block_words redefines w = 3 + (when redefines && bit 15 w then 2 else 0) + 5 * (w % 16)
 
 -- a pointer that stands in memory k words after the address a
 abbrev pub pointer_in : Bool → List ℕ → ℕ → ℕ → Pointer
@@ -49,17 +49,17 @@ pointer_in linear m k a =
 
 -- the redefinition pointer of the row block at p
 unfoldable pub redefinition_of : Bool → List ℕ → Pointer → Pointer
-redefinition_of linear m p = if null p then nothing else (if bit 15 (head_word linear m p) then pointer_in linear m 3 p.address else nothing)
+redefinition_of linear m p = when null p then nothing else (when bit 15 (head_word linear m p) then pointer_in linear m 3 p.address else nothing)
 
 -- the window block that is due before a row, null where none is
 unfoldable pub due_of : ℕ → WindowInHand → Pointer
 due_of row Absent = nothing
-due_of row (Present w) = if ltb w.block.bottom row then w.block.link else nothing
+due_of row (Present w) = when ltb w.block.bottom row then w.block.link else nothing
 
 -- the row block of the window in hand
 unfoldable pub rows_of : Bool → List ℕ → ℕ → WindowInHand → Pointer
 rows_of linear m row Absent = nothing
-rows_of linear m row (Present w) = if ltb w.block.bottom row then pointer_in linear m 2 w.block.link.address else w.rows
+rows_of linear m row (Present w) = when ltb w.block.bottom row then pointer_in linear m 2 w.block.link.address else w.rows
 
 -- .. on a row with a window; null on others
 unfoldable pub over_rows : Bool → List ℕ → ℕ → WindowInHand → Overlay → Pointer
@@ -145,10 +145,10 @@ module _ (σ : CodeSettings) (m : List ℕ) (fill : FillMode) (cs : List ℕ) wh
 
   -- .. where it is chosen
   abbrev pub chosen_addresses : Bool → ℕ → Segment → List ℕ
-  chosen_addresses chosen c g = if chosen then segment_addresses c g else []
+  chosen_addresses chosen c g = when chosen then segment_addresses c g else []
 
   abbrev pub chosen_list : Bool → ℕ → Segment → AttributeList → AttributeList
-  chosen_list chosen c g l = if chosen then segment_list c g else l
+  chosen_list chosen c g l = when chosen then segment_list c g else l
 
   -- segments one after the other
   unfoldable pub side_addresses : ℕ → List Segment → List ℕ

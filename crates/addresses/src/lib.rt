@@ -2,7 +2,7 @@
 // The addresses of the words that an accepted start or row reads, in order, written into a list.
 ghost use Rattle.std.specs.Prelude.{◌≡◌, List, ℕ, ◌+◌, ◌≤◌, length};
 ghost use Rattle.std.proofs.lemmas.List.Edits.{sets};
-ghost use Rattle.memory.specs.Word.{if◌then◌else◌};
+ghost use Rattle.memory.specs.Word.{when◌then◌else◌};
 ghost use Rattle.blocks.specs.RowBlock.{segments_of};
 ghost use Rattle.layout.specs.Answers.{overlay_of};
 ghost use Rattle.cells.specs.Answers.{Drawable};
@@ -77,7 +77,7 @@ pub fn put_row(
     requires drawable { Drawable settings.hidden (overlay_of settings.linear overlay window.now) (segments_of settings.linear count back.now) }
     requires cells_len { length cells.now ≡ 132 }
     requires cells_in_bounds { at + length (row_addresses settings mem.now fields (overlay_of settings.linear overlay window.now) (segments_of settings.linear count back.now) cells.now) ≤ length list.old }
-    ensures { list.new ≡ sets list.old at (if noted then block_addresses settings.linear mem.now fields (overlay_of settings.linear overlay window.now) else row_addresses settings mem.now fields (overlay_of settings.linear overlay window.now) (segments_of settings.linear count back.now) cells.now) }
+    ensures { list.new ≡ sets list.old at (when noted then block_addresses settings.linear mem.now fields (overlay_of settings.linear overlay window.now) else row_addresses settings mem.now fields (overlay_of settings.linear overlay window.now) (segments_of settings.linear count back.now) cells.now) }
 {
     let linear = settings.linear;
     let fill = fields.fill;

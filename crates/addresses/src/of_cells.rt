@@ -1,7 +1,7 @@
 // The words that the cells of a row are drawn from, left to right.
 ghost use Rattle.std.specs.Prelude.{◌≡◌, ◌+◌, ◌≤◌, length};
 ghost use Rattle.std.proofs.lemmas.List.Edits.{sets};
-ghost use Rattle.memory.specs.Word.{if◌then◌else◌};
+ghost use Rattle.memory.specs.Word.{when◌then◌else◌};
 ghost use Rattle.blocks.specs.RowBlock.{segments_of};
 ghost use Rattle.layout.specs.Layout.{width, total, over, segments_on};
 ghost use Rattle.layout.specs.Answers.{overlay_of};
@@ -166,7 +166,7 @@ fn put_stretch(
 
 // The columns that a segment takes: none where it is not chosen.
 fn chosen_width(chosen: bool, w: usize) -> usize
-    ensures { result ≡ (if chosen then w else 0) }
+    ensures { result ≡ (when chosen then w else 0) }
 {
     if chosen { w } else { 0 }
 }
@@ -183,7 +183,7 @@ fn put_chosen(
     to: Written,
     list: &mut [u32],
 ) -> Written
-    requires else_in_bounds { column + (if chosen then width settings.hidden g else 0) ≤ length cells.now }
+    requires else_in_bounds { column + (when chosen then width settings.hidden g else 0) ≤ length cells.now }
     requires g_in_bounds { to.at + length (chosen_addresses settings mem.now fill cells.now chosen column g) ≤ length list.old }
     ensures value { result ≡ written_to to.at (chosen_addresses settings mem.now fill cells.now chosen column g) (chosen_list settings mem.now fill cells.now chosen column g to.list) }
     ensures list_after { list.new ≡ sets list.old to.at (chosen_addresses settings mem.now fill cells.now chosen column g) }

@@ -2,7 +2,7 @@
 -- same rules". Up, it is the row that enters below the frame; down, the row that enters above it.
 use Rattle.std.specs.Prelude.{ℕ, ◌+◌, List, ℤ, pos, length, eqb}
 use Rattle.std.specs.Int.Signed.{lt_z}
-use Rattle.memory.specs.Word.{if◌then◌else◌}
+use Rattle.memory.specs.Word.{when◌then◌else◌}
 use Rattle.memory.specs.Reading.{fault, refusal}
 use Rattle.settings.specs.declared.PointerWords.{PointerWords}
 use Rattle.settings.specs.declared.Settings.{Settings}
@@ -79,13 +79,13 @@ after_start σ m buffer (Start.Refused r) = beside_called (Refused r) buffer
 -- Check 1 comes before the start's, as in every call with a row buffer.
 unfoldable pub row_above : Settings → List ℕ → ℕ → List ℕ → BesideCalled
 row_above σ m latch buffer =
-    if eqb (length buffer) 132
+    when eqb (length buffer) 132
     then after_start σ m buffer (start_call latch σ m)
     else beside_called (Refused (refusal 0 (fault 1))) buffer
 
 -- "positive up and negative down"
 unfoldable pub beside_call : Settings → List ℕ → ℤ → PointerWords → ℕ → State → List ℕ → BesideCalled
 beside_call σ m shift soft latch last buffer =
-    if lt_z (pos 0) shift then row_below σ m last buffer
-    else if lt_z shift (pos 0) then row_above (with_top σ soft) m latch buffer
+    when lt_z (pos 0) shift then row_below σ m last buffer
+    else when lt_z shift (pos 0) then row_above (with_top σ soft) m latch buffer
     else beside_called Absent buffer

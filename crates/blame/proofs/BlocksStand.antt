@@ -9,7 +9,7 @@ use lib.Dec.{ltb, leb, eqb, lit<}
 use borrow.Author.Tests.{leb-true, le-leb, ltb-true}
 use Rattle.memory.specs.declared.Fault.{Fault}
 use Rattle.memory.specs.declared.Pointer.{Pointer}
-use Rattle.memory.specs.Word.{if◌then◌else◌, bit, high, low, at}
+use Rattle.memory.specs.Word.{when◌then◌else◌, bit, high, low, at}
 use Rattle.memory.specs.Reading.{read_as, one_pointer, Reading, ◌>>=◌, blaming}
 use Rattle.memory.specs.Address.{pointer, null, is_address, ahead, further, words}
 use Rattle.memory.proofs.ReadBounds.{Words, both, if-cases}
@@ -81,7 +81,7 @@ module _ (m : List ℕ) (b : Words m) (linear : Bool) where
 
       -- a redefinition pointer follows, or none does
       rest-stands : (redefines : Bool) (head : List ℕ) → From m b linear 3 p.address head
-          → Comes m Q (BlockStands p) (rest_of_block linear p head (if redefines then 2 else 0))
+          → Comes m Q (BlockStands p) (rest_of_block linear p head (when redefines then 2 else 0))
       unfolding rest_of_block ahead words read_as ◌>>=◌
       rest-stands true head e =
           bind m Q (as-comes m Q one_pointer (words-come m b linear Q 2 (further linear 3 p) q)) λ re r.

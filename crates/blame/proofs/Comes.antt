@@ -8,7 +8,7 @@ use lib.ListN.{length, get_or}
 use lib.Dec.{ltb}
 use Rattle.memory.specs.declared.Fault.{Fault}
 use Rattle.memory.specs.declared.Pointer.{Pointer}
-use Rattle.memory.specs.Word.{if◌then◌else◌}
+use Rattle.memory.specs.Word.{when◌then◌else◌}
 use Rattle.memory.specs.Reading.{Role, read_as, Ask, Reading, done, refuse, ask, absent, blaming, ◌>>=◌, check_of, each, Outcome, given, refused, run_from}
 use Rattle.memory.proofs.ReadBounds.{if-cases}
 use Rattle.holding.proofs.Holds as Shared
@@ -52,7 +52,7 @@ module _ (m : List ℕ) (Q : Fault → Type 0) where
   check-then n p false h f = refuses (h refl)
 
   pub if-comes : {A : Type 0} {P : A → Type 0} (b : Bool) {p q : Reading A} → (b ≡ true → Comes P p) → (b ≡ false → Comes P q)
-      → Comes P (if b then p else q)
+      → Comes P (when b then p else q)
   if-comes {P} b h k = if-cases (Comes P) b h k
 
   -- on the memory

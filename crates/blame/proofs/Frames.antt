@@ -9,7 +9,7 @@ use lib.Dec.{eqb, leb, lit<}
 use borrow.Author.Tests.{eqb-false, le-leb}
 use Rattle.memory.specs.declared.Fault.{Fault}
 use Rattle.memory.specs.declared.Refusal.{Refusal}
-use Rattle.memory.specs.Word.{if◌then◌else◌, at}
+use Rattle.memory.specs.Word.{when◌then◌else◌, at}
 use Rattle.memory.specs.Reading.{one_pointer, Reading, ◌>>=◌, nobody, blaming, Outcome, given, refused, refusal, run_from, run}
 use Rattle.memory.specs.Address.{pointer, null, is_address, ahead}
 use Rattle.memory.proofs.Laws.{bind-given, bind-refused, bind-bind}

@@ -8,7 +8,7 @@ use lib.Dec.{ltb, leb, eqb}
 use borrow.Author.Tests.{leb-true, le-leb, lt-ltb, ltb-true}
 use Rattle.memory.specs.declared.Fault.{Fault}
 use Rattle.memory.specs.declared.Pointer.{Pointer}
-use Rattle.memory.specs.Word.{if◌then◌else◌}
+use Rattle.memory.specs.Word.{when◌then◌else◌}
 use Rattle.memory.specs.Reading.{Reading, done, ◌>>=◌, ◌>>◌, check, nobody, blaming, fault}
 use Rattle.memory.specs.Address.{null}
 use Rattle.memory.proofs.ReadBounds.{Words, both, if-cases}
@@ -195,8 +195,8 @@ module _ (σ : Settings) (m : List ℕ) (b : Words m) where
       next-led : Place
       next-led = Memory w.block.link.from
 
-      by : (t : Bool) → Comes m (Mends (if t then next-led else led)) (LedTo (if t then next-led else led))
-          (if t then window_at σ.linear (w.block.number + 1) (w.block.bottom + 1) w.block.link else done (Present w))
+      by : (t : Bool) → Comes m (Mends (when t then next-led else led)) (LedTo (when t then next-led else led))
+          (when t then window_at σ.linear (w.block.number + 1) (w.block.bottom + 1) w.block.link else done (Present w))
       by true =
           let o = in_order_lem w.block h.0.ordered in
           let s = h.0.link in

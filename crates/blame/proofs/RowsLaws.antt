@@ -7,7 +7,7 @@ use native.Mathlib.Omega.{arith}
 use native.Mathlib.Nat.{le_refl}
 use lib.Dec.{eqb}
 use borrow.Author.Tests.{eq-eqb, ne_eqb}
-use Rattle.memory.specs.Word.{if◌then◌else◌}
+use Rattle.memory.specs.Word.{when◌then◌else◌}
 use Rattle.memory.specs.declared.Fault.{Fault}
 use Rattle.memory.specs.Reading.{Outcome, given, refused, run}
 use Rattle.memory.proofs.ReadBounds.{Words}
@@ -22,7 +22,7 @@ use Rattle.blame.specs.declared.RowWalk.TheVariants as Walk
 use Rattle.blame.specs.Blame.{leader, refused_row, next_state, by_row, rows_within, rows}
 use Rattle.blame.specs.Answers.{walked}
 
-if-same : (b : Bool) (x : Verdict) {y z : Verdict} → (b ≡ false → y ≡ z) → (if b then x else y) ≡ (if b then x else z)
+if-same : (b : Bool) (x : Verdict) {y z : Verdict} → (b ≡ false → y ≡ z) → (when b then x else y) ≡ (when b then x else z)
 if-same true x h = refl
 if-same false x h = h refl
 

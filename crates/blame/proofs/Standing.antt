@@ -11,7 +11,7 @@ use lib.Dec.{ltb, eqb}
 use borrow.Author.Tests.{eq-eqb, ne_eqb, lt-ltb, eqb-true, eqb-false}
 use Rattle.memory.specs.declared.Fault.{Fault}
 use Rattle.memory.specs.declared.Pointer.{Pointer}
-use Rattle.memory.specs.Word.{if◌then◌else◌, at}
+use Rattle.memory.specs.Word.{when◌then◌else◌, at}
 use Rattle.memory.specs.Reading.{Reading, ◌>>=◌}
 use Rattle.memory.specs.Address.{to, nothing, pointer, null, is_address, next_word, ahead, onward, words}
 use Rattle.memory.proofs.ReadBounds.{Words, both, if-cases}
@@ -37,8 +37,8 @@ to-from : (from a : ℕ) → is_address a ≡ true → is_address from ≡ true
     → (pointer_in_range (to from a) ≡ true) × (null (to from a) ≡ false → (to from a).from ≡ from)
 to-from from a h k = by (eqb a 0) refl
   where
-    by : (b : Bool) → eqb a 0 ≡ b → (is_address a && is_address (if b then 0 else from) && (not b || eqb (if b then 0 else from) 0) ≡ true)
-        × (b ≡ false → (if b then 0 else from) ≡ from)
+    by : (b : Bool) → eqb a 0 ≡ b → (is_address a && is_address (when b then 0 else from) && (not b || eqb (when b then 0 else from) 0) ≡ true)
+        × (b ≡ false → (when b then 0 else from) ≡ from)
     by true e = (rw h, λ f. let q : ◌≡◌ {A = ℕ} 0 1 = cc in absurd (omega arith))
     by false e = (rw (h, k), λ _. refl)
 

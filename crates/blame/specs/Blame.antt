@@ -1,6 +1,6 @@
 -- Document 02, "Mending damaged lists": which pointer a refusal blames.
 use Rattle.std.specs.Prelude.{ℕ, zero, suc, ◌/◌, Bool, ◌&&◌, ◌||◌, List, get_or, ltb, leb, eqb}
-use Rattle.memory.specs.Word.{if◌then◌else◌}
+use Rattle.memory.specs.Word.{when◌then◌else◌}
 use Rattle.memory.specs.declared.Fault.{Fault}
 use Rattle.memory.specs.Address.{next_word}
 use Rattle.memory.specs.Reading.{Reading, ◌>>◌, Outcome, given, refused, refusal, run}
@@ -32,13 +32,13 @@ second_word (Memory a) σ m = get_or m (next_word σ.linear a / 2) 0
 -- this one's last row; then it is this one's link, before that the one that led to this one.
 unfoldable pub leader : ℕ → WindowInHand → Place → Place
 leader row Absent led = led
-leader row (Present w) led = if ltb w.block.bottom row then Memory w.block.link.from else led
+leader row (Present w) led = when ltb w.block.bottom row then Memory w.block.link.from else led
 
 -- "for 7 the pointer in use, for 13 the attribute pointer in use, for 9 and 10 the one that led to the row block or window row block": it
 -- begins where the refusal on its way up says, and so does the one that led to a window refused 8. For 11 and 12 it is the one that led to
 -- the window in hand.
 unfoldable pub blamed : Place → Fault → Place
-blamed led x = if eqb x.number 11 || eqb x.number 12 then led else Memory x.from
+blamed led x = when eqb x.number 11 || eqb x.number 12 then led else Memory x.from
 
 -- a row of a frame has no other refusal than these (`RowStands.row-stands`)
 abbrev pub mendable : ℕ → Bool
@@ -46,7 +46,7 @@ mendable n = leb 7 n && leb n 13
 
 -- a refused row
 abbrev pub refused_row : Place → ℕ → Fault → Verdict
-refused_row led number x = if mendable x.number then Blamed (blamed led x) x.number else Refused (refusal number x)
+refused_row led number x = when mendable x.number then Blamed (blamed led x) x.number else Refused (refusal number x)
 
 -- the state after a row
 abbrev pub next_state : Row → State
@@ -61,7 +61,7 @@ by_row rest led number (refused x) = refused_row led number x
 unfoldable pub rows_within : ℕ → Settings → List ℕ → Place → State → Verdict
 rows_within zero σ m led s = Whole
 rows_within (suc n) σ m led s =
-    if eqb s.fields.left 0
+    when eqb s.fields.left 0
     then Whole
     else by_row (rows_within n σ m) (leader s.fields.row s.fields.window led) s.fields.row (run m (row σ s))
 

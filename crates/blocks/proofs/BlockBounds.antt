@@ -8,7 +8,7 @@ use lib.ListN.{length, drop}
 use lib.Seq.{get_or-drop}
 use lib.Dec.{lit≤}
 use Rattle.memory.specs.declared.Pointer.{Pointer}
-use Rattle.memory.specs.Word.{if◌then◌else◌, bit, at}
+use Rattle.memory.specs.Word.{when◌then◌else◌, bit, at}
 use Rattle.memory.specs.Reading.{one_pointer}
 use Rattle.memory.specs.Address.{null, ahead, further}
 use Rattle.memory.proofs.ReadBounds.{Words, Reads, dones, weaken, bind, if-reads, words-read}
@@ -44,14 +44,14 @@ rest-reads linear p head pointed =
     dones (few.0, omega arith)
 
 pub block_reads : (linear redefines : Bool) (p : Pointer)
-    → Reads (λ b. Few 15 b.segments) (78 + (if redefines then 2 else 0)) (block_at linear redefines p)
+    → Reads (λ b. Few 15 b.segments) (78 + (when redefines then 2 else 0)) (block_at linear redefines p)
 unfolding block_at
 block_reads linear redefines p =
     if-reads (null p) (λ _. dones (tt, zero-le)) λ _.
-    bind {n = 3} {k = 75 + (if redefines then 2 else 0)} (omega arith) (as-reads one_pointer (words-read linear 3 p)) λ head _.
+    bind {n = 3} {k = 75 + (when redefines then 2 else 0)} (omega arith) (as-reads one_pointer (words-read linear 3 p)) λ head _.
     weaken (pointed redefines (bit 15 (at head 2))) (rest-reads linear p head _)
   where
-    pointed : (r b : Bool) → 75 + (if r && b then 2 else 0) ≤ 75 + (if r then 2 else 0)
+    pointed : (r b : Bool) → 75 + (when r && b then 2 else 0) ≤ 75 + (when r then 2 else 0)
     pointed true true = le_refl 77
     pointed true false = lit≤ tt
     pointed false b = le_refl 75

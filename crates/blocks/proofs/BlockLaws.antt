@@ -8,7 +8,7 @@ use native.Mathlib.Omega.{arith}
 use lib.Dec.{lit≤}
 use lib.ListN.{length, drop, length-drop, get_or-append}
 use lib.Seq.{drop-append-le, drop-drop, get_or-drop}
-use Rattle.memory.specs.Word.{if◌then◌else◌, bit, high, low, at}
+use Rattle.memory.specs.Word.{when◌then◌else◌, bit, high, low, at}
 use Rattle.memory.specs.declared.Fault.{Fault}
 use Rattle.memory.specs.declared.Pointer.{Pointer}
 use Rattle.memory.specs.declared.WordsRead.{WordsRead}
@@ -118,7 +118,7 @@ module _ (m : List ℕ) (l redefines : Bool) (p : Pointer) (head : List ℕ) (re
     (is : pointed ≡ redefines && bit 15 (at head 2)) (r : PointerRead)
     (e : pointer_read (pointer_words pointed) r ≡ run_from 3 m (redefinition_pointer l p (pointer_words pointed))) where
   abbrev whole : Reading RowBlock
-  whole = read_as one_pointer (words l 3 p) >>= λ ws. rest_of_block l p ws (if redefines && bit 15 (at ws 2) then 2 else 0)
+  whole = read_as one_pointer (words l 3 p) >>= λ ws. rest_of_block l p ws (when redefines && bit 15 (at ws 2) then 2 else 0)
 
   by-pointer : run m whole ≡ run_from 3 m (redefinition_pointer l p (pointer_words pointed) >>= λ re. segments_from l p head re (3 + pointer_words pointed))
   by-pointer = step_given 0 m (read_as one_pointer (words l 3 p)) _ (run-as _ _ _ _ ∙ read) ∙ rw (sym is) (rest-of-block 3 m l p head (pointer_words pointed))

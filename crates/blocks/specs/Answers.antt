@@ -1,6 +1,6 @@
 -- What the functions of this crate give, as what the rules give: no rules of their own.
 use Rattle.std.specs.Prelude.{ℕ, ◌+◌, ◌-◌, ◌*◌, Bool, List, drop}
-use Rattle.memory.specs.Word.{if◌then◌else◌, at}
+use Rattle.memory.specs.Word.{when◌then◌else◌, at}
 use Rattle.memory.specs.declared.Pointer.{Pointer}
 use Rattle.memory.specs.Reading.{Reading, done, ◌>>=◌, Outcome, given, refused, read_as, one_pointer}
 use Rattle.memory.specs.Address.{pointer, ahead, further, words}
@@ -37,7 +37,7 @@ block_read linear (Block.Refused x) ws = refused x
 -- how many words a redefinition pointer takes in a block; its reading, in the block at p; the answer of its reader as an outcome, after
 -- the block's first three words
 abbrev pub pointer_words : Bool → ℕ
-pointer_words pointed = if pointed then 2 else 0
+pointer_words pointed = when pointed then 2 else 0
 
 unfoldable pub redefinition_pointer : Bool → Pointer → ℕ → Reading Pointer
 redefinition_pointer linear p n = do

@@ -1,6 +1,6 @@
 -- Document 01, "Blocks": row blocks with their segments, and redefinitions.
 use Rattle.std.specs.Prelude.{ℕ, zero, suc, ◌+◌, ◌*◌, ◌%◌, Bool, true, false, ◌&&◌, List, [], ◌∷◌, drop}
-use Rattle.memory.specs.Word.{if◌then◌else◌, bit, high, low, at}
+use Rattle.memory.specs.Word.{when◌then◌else◌, bit, high, low, at}
 use Rattle.memory.specs.declared.Pointer.{Pointer}
 use Rattle.memory.specs.Reading.{Role, First, Second, Other, Reading, done, ◌>>=◌, read_as, one_pointer}
 use Rattle.memory.specs.Address.{nothing, pointer, null, ahead, further, words}
@@ -61,9 +61,9 @@ rest_of_block linear p head pointed = do
   segments_from linear p head (pointer linear (ahead linear 3 p.address) (at re 0) (at re 1)) (3 + pointed)
 
 unfoldable pub block_at : Bool → Bool → Pointer → Reading RowBlock
-block_at linear redefines p = if null p then done no_block else do
+block_at linear redefines p = when null p then done no_block else do
   head ← read_as one_pointer (words linear 3 p)
-  rest_of_block linear p head (if redefines && bit 15 (at head 2) then 2 else 0)
+  rest_of_block linear p head (when redefines && bit 15 (at head 2) then 2 else 0)
 
 unfoldable pub row_block_at : Bool → Pointer → Reading RowBlock
 row_block_at linear p = block_at linear true p
@@ -78,6 +78,6 @@ unfoldable pub format_of : List ℕ → RowFormat
 format_of b = record { attributes = at b 0 % 1024; lines = scan_lines (at b 1); curs = high (at b 2) % 32; cure = at b 2 % 32 }
 
 unfoldable pub redefined : Bool → Pointer → RowFormat → Reading RowFormat
-redefined linear p format = if null p then done format else do
+redefined linear p format = when null p then done format else do
   b ← words linear 3 p
   done (format_of b)

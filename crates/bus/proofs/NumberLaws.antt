@@ -7,7 +7,7 @@ use native.Mathlib.Omega.{arith}
 use lib.ListN.{length, set}
 use lib.Dec.{eqb}
 use mir.Val.{bool_byte}
-use Rattle.memory.specs.Word.{if◌then◌else◌}
+use Rattle.memory.specs.Word.{when◌then◌else◌}
 use Rattle.bus.specs.declared.Totals.{Totals}
 use Rattle.bus.specs.Numbers.{totals_at, totals_numbers}
 
@@ -30,11 +30,11 @@ seven-set (p ∷ q ∷ r ∷ s ∷ t ∷ u ∷ v ∷ []) l a b c d e f g = refl
 seven-set (p ∷ q ∷ r ∷ s ∷ t ∷ u ∷ v ∷ w ∷ xs) l a b c d e f g = absurd (omega arith)
 
 -- a test as a number
-pub yes-number : (b : Bool) → bool_byte b ≡ (if b then 1 else 0)
+pub yes-number : (b : Bool) → bool_byte b ≡ (when b then 1 else 0)
 yes-number true = refl
 yes-number false = refl
 
-yes-again : (b : Bool) → eqb (if b then 1 else 0) 1 ≡ b
+yes-again : (b : Bool) → eqb (when b then 1 else 0) 1 ≡ b
 yes-again true = refl
 yes-again false = refl
 

@@ -1,6 +1,6 @@
 -- Document 02 §10, "How much of the bus a screen takes": what a row takes, and the running totals.
 use Rattle.std.specs.Prelude.{ℕ, ◌+◌, ◌-◌, ◌*◌, ◌/◌, ◌^◌, Bool, true, false, ◌&&◌, ◌||◌, not, ltb, eqb}
-use Rattle.memory.specs.Word.{if◌then◌else◌, high, low}
+use Rattle.memory.specs.Word.{when◌then◌else◌, high, low}
 use Rattle.memory.specs.declared.Refusal.{Refusal}
 use Rattle.bus.specs.declared.BusRow.{BusRow}
 use Rattle.bus.specs.declared.Figures.{Figures}
@@ -18,8 +18,8 @@ burst_count burst = low burst
 -- "the bursts (words over burst count, rounded up)"; "A burst space of 0 keeps the bus (003 over 000 here): one burst if any word is read."
 unfoldable pub bursts : ℕ → ℕ → ℕ
 bursts burst words =
-    if eqb words 0 then 0
-    else if eqb (burst_space burst) 0 then 1
+    when eqb words 0 then 0
+    else when eqb (burst_space burst) 0 then 1
     else (words + (burst_count burst - 1)) / burst_count burst
 
 -- "the least released time, 15 system clocks times burst space for each gap between two bursts of one row"
@@ -46,9 +46,9 @@ added t h = record {
   words = t.words + h.words;
   bursts = t.bursts + (figures h).bursts;
   released = t.released + (figures h).released;
-  largest = if larger t h then h.words else t.largest;
-  screen = if larger t h then h.screen else t.screen;
-  row = if larger t h then h.row else t.row;
+  largest = when larger t h then h.words else t.largest;
+  screen = when larger t h then h.screen else t.screen;
+  row = when larger t h then h.row else t.row;
   any = true;
 }
 
@@ -70,6 +70,6 @@ refuse n t = record { totals = t; answer = Refused (refusal n) }
 -- that would not fit, totals unchanged."
 unfoldable pub reported : Totals → BusRow → Reported
 reported t h =
-    if eqb (burst_count h.burst) 0 then refuse 20 t
-    else if all_fit (added t h) then record { totals = added t h; answer = Counted (figures h) }
+    when eqb (burst_count h.burst) 0 then refuse 20 t
+    else when all_fit (added t h) then record { totals = added t h; answer = Counted (figures h) }
     else refuse 21 t

@@ -1,6 +1,6 @@
 -- The totals and a row's figures as numbers at fixed places of lent slices, and what a row's report leaves there.
 use Rattle.std.specs.Prelude.{ℕ, List, [], ◌∷◌, eqb}
-use Rattle.memory.specs.Word.{if◌then◌else◌, at}
+use Rattle.memory.specs.Word.{when◌then◌else◌, at}
 use Rattle.bus.specs.declared.Figures.{Figures}
 use Rattle.bus.specs.declared.Totals.{Totals}
 use Rattle.bus.specs.declared.BusAnswer.{BusAnswer}
@@ -21,7 +21,7 @@ totals_at xs = record {
 
 unfoldable pub totals_numbers : Totals → List ℕ
 totals_numbers t =
-    t.words ∷ t.bursts ∷ t.released ∷ t.largest ∷ t.screen ∷ t.row ∷ (if t.any then 1 else 0) ∷ []
+    t.words ∷ t.bursts ∷ t.released ∷ t.largest ∷ t.screen ∷ t.row ∷ (when t.any then 1 else 0) ∷ []
 
 -- a row's bursts and its least released time
 abbrev pub figures_numbers : Figures → List ℕ

@@ -1,7 +1,7 @@
 #![tactic(auto)]
 // How much of the bus a screen takes: a row's bursts and its least released time, and the running totals of the rows handed in.
 ghost use Rattle.std.specs.Prelude.{◌≡◌, true, ◌+◌, ◌-◌, ◌*◌, ◌<◌, ◌≤◌};
-ghost use Rattle.memory.specs.Word.{if◌then◌else◌};
+ghost use Rattle.memory.specs.Word.{when◌then◌else◌};
 ghost use Rattle.bus.specs.Bus.{burst_space, burst_count, bursts, figures, none, added, fits, all_fit, refuse, reported};
 
 use memory::Refusal;
@@ -193,7 +193,7 @@ fn with_row(t: Totals, row: BusRow, f: Figures) -> Totals
 }
 
 fn pick(test: bool, a: u64, b: u64) -> u64
-    ensures { result ≡ (if test then a else b) }
+    ensures { result ≡ (when test then a else b) }
 {
     if test { a } else { b }
 }

@@ -9,7 +9,7 @@ use lib.ListN.{length}
 use lib.Seq.{set-set}
 use lib.Dec.{eqb}
 use borrow.Author.Tests.{eq-eqb, eqb-true}
-use Rattle.memory.specs.Word.{if◌then◌else◌, at}
+use Rattle.memory.specs.Word.{when◌then◌else◌, at}
 use Rattle.memory.specs.declared.Refusal.{Refusal}
 use Rattle.memory.specs.Reading.{Outcome, given, refused, refusal, fault, run}
 use Rattle.memory.proofs.ReadBounds.{both}
@@ -199,15 +199,15 @@ module _ (settings m : List ℕ) (σ : Settings) (g : settings_in settings ≡ S
     where
       out : (t u : Bool) → RowListed
       out t u =
-          let a : Called = if t then answered σ s.fields c.cells (run m (row σ s)) else called (Row.Refused (refusal s.fields.row (fault 1))) c.cells in
-          if t
-          then (if u
+          let a : Called = when t then answered σ s.fields c.cells (run m (row σ s)) else called (Row.Refused (refusal s.fields.row (fault 1))) c.cells in
+          when t
+          then (when u
           then called_with a (list_after m (row σ s) c.list)
           else row_with (Row.Refused (refusal s.fields.row (fault 25))) c.cells c.list)
           else called_with a c.list
 
       by_size : (t u v : Bool) → t && u && v ≡ false
-          → (if v then after_row_listed state c.answer (out t u) else drawn_listed 255 state c.cells c.list c.answer).state ≡ state
+          → (when v then after_row_listed state c.answer (out t u) else drawn_listed 255 state c.cells c.list c.answer).state ≡ state
       by_size true true true e = let q : ◌≡◌ {A = ℕ} 0 1 = cc in absurd (omega arith)
       by_size true true false e = refl
       by_size true false true e = refl

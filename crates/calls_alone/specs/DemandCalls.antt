@@ -2,7 +2,7 @@
 -- that `thagaduvin_row`, `thagaduvin_effect`, `thagaduvin_join` and `thagaduvin_apply` are lent.
 use Rattle.std.specs.Prelude.{ℕ, ◌<◌, ◌≡◌, Bool, true, ◌&&◌, List, [], ◌∷◌, ◌++◌, length, take, drop, set, replicate, eqb}
 use Rattle.std.proofs.Math.Option.{Option, some, none}
-use Rattle.memory.specs.Word.{if◌then◌else◌, at}
+use Rattle.memory.specs.Word.{when◌then◌else◌, at}
 use Rattle.numbers.specs.Decode.{is_state}
 use Rattle.answers.specs.AfterCall.{Answered, Stated}
 use Rattle.listed_answers.specs.AfterListed.{DrawnListed}
@@ -54,7 +54,7 @@ pub record Given : Type 0 where
 abbrev pub given_by : DrawnListed → Given
 given_by d = record {
   status = d.status;
-  next = if eqb d.status 0 then some d.state else none;
+  next = when eqb d.status 0 then some d.state else none;
   cells = d.cells;
   list = d.list;
   answer = d.answer;
@@ -82,7 +82,7 @@ accepted_by c d = record {
 }
 
 unfoldable pub on_slices : Call → DrawnListed → Given
-on_slices c d = if eqb d.status 0 then accepted_by c d else refused_by c d.status d.answer
+on_slices c d = when eqb d.status 0 then accepted_by c d else refused_by c d.status d.answer
 
 -- settings and memory stay
 module _ (settings m : List ℕ) where
@@ -92,13 +92,13 @@ module _ (settings m : List ℕ) where
   in_turn state (c ∷ cs) =
       let out : DrawnListed = host_row settings m state c.cells c.list c.answer in
       let rest : List Given = in_turn out.state cs in
-      if is_row c then given_by out ∷ rest else rest
+      when is_row c then given_by out ∷ rest else rest
 
   -- "If they refuse, the call gives this same first refusal." "The row drawn alone is a row call with 132 cells on the fields then
   -- reached and the latch that the joined effects make of the first one."
   unfoldable pub row_alone : List ℕ → Call → Answered → Given
   row_alone fields c applied =
-      if eqb applied.status 0
+      when eqb applied.status 0
       then on_slices c (host_row settings m (with_latch (at applied.answer 3) fields) c.alone_cells c.alone_list c.alone_answer)
       else refused_by c applied.status applied.answer
 
@@ -109,7 +109,7 @@ module _ (settings m : List ℕ) where
   drawn_alone first fields above (c ∷ cs) =
       let x : Stated = host_effect settings m (with_latch c.effect_latch fields) c.effect in
       let e : Answered = host_join above x.answer c.joined in
-      if is_row c
+      when is_row c
       then row_alone fields c (host_apply above first c.applied) ∷ drawn_alone first x.state e.answer cs
       else drawn_alone first fields above cs
 

@@ -5,7 +5,7 @@ use mathlib.Core.Bool.{Bool, true, false, ◌&&◌, ◌||◌, not}
 use mathlib.Core.List.{List}
 use Prim.Native.Nat.{ℕ, zero, suc, ◌+◌, ◌-◌}
 use lib.Dec.{ltb}
-use Rattle.memory.specs.Word.{if◌then◌else◌}
+use Rattle.memory.specs.Word.{when◌then◌else◌}
 use Rattle.memory.specs.declared.Pointer.{Pointer}
 use Rattle.memory.specs.Reading.{Reading, ◌>>=◌}
 use Rattle.memory.specs.Address.{onward}
@@ -50,7 +50,7 @@ module _ (l₁ l₂ : ℕ) where
 
   -- either side of the word's bit 15
   held-taking : (t : Bool) (w : ℕ) {b : Bool} {w₁ w₂ : ℕ} → Held b w₁ w₂
-      → Held (if t then true else b) (if t then w else w₁) (if t then w else w₂)
+      → Held (when t then true else b) (when t then w else w₁) (when t then w else w₂)
   held-taking true w h = became w
   held-taking false w h = h
 

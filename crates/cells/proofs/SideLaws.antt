@@ -5,7 +5,7 @@ use mathlib.Core.Bool.{Bool, true, false}
 use Prim.Native.Nat.{ℕ, ◌+◌, ◌<◌, ◌≤◌}
 use native.Mathlib.Omega.{arith}
 use native.Mathlib.Nat.{zero-add}
-use Rattle.memory.specs.Word.{if◌then◌else◌}
+use Rattle.memory.specs.Word.{when◌then◌else◌}
 use Rattle.memory.specs.declared.Fault.{Fault}
 use Rattle.memory.specs.Reading.{Reading, done, ◌>>=◌, each, given, refused, run_from}
 use Rattle.memory.proofs.Laws.{bind-given, bind-refused, run-done}
@@ -22,13 +22,13 @@ use Rattle.cells.specs.Answers.{Drawable}
 
 -- of a list whose first may be left out: the sum of widths, and a reading for each
 module _ (hidden : Bool) (g : Segment) (gs : List Segment) where
-  total-chosen : (b : Bool) → total hidden (if b then g ∷ gs else gs) ≡ (if b then width hidden g else 0) + total hidden gs
+  total-chosen : (b : Bool) → total hidden (when b then g ∷ gs else gs) ≡ (when b then width hidden g else 0) + total hidden gs
   unfolding total
   total-chosen true = refl
   total-chosen false = sym (zero-add (total hidden gs))
 
 module _ {A B : Type 0} (f : A → B → Reading B) (x : A) (xs : List A) (y : B) where
-  each_chosen : (b : Bool) → each f (if b then x ∷ xs else xs) y ≡ (if b then f x y else done y) >>= each f xs
+  each_chosen : (b : Bool) → each f (when b then x ∷ xs else xs) y ≡ (when b then f x y else done y) >>= each f xs
   unfolding each ◌>>=◌
   each_chosen true = refl
   each_chosen false = refl
@@ -44,7 +44,7 @@ module _ (n : ℕ) (m : List ℕ) (l hidden : Bool) (side : Side) (count : Segme
   abbrev after : List Segment
   after = segments_on side hidden (at + width hidden turn) (segments_past l count ws (i + 1))
 
-  pub more : i < count.number → here ≡ (if on_side side at (width hidden turn) then turn ∷ after else after)
+  pub more : i < count.number → here ≡ (when on_side side at (width hidden turn) then turn ∷ after else after)
   unfolding segments_on
   more h = ap (segments_on side hidden at) (segments-more l count ws i h)
 
@@ -52,7 +52,7 @@ module _ (n : ℕ) (m : List ℕ) (l hidden : Bool) (side : Side) (count : Segme
   unfolding segments_on
   none h = ap (segments_on side hidden at) (segments-none l count ws i h)
 
-  pub side-total : i < count.number → total hidden here ≡ (if on_side side at (width hidden turn) then width hidden turn else 0) + total hidden after
+  pub side-total : i < count.number → total hidden here ≡ (when on_side side at (width hidden turn) then width hidden turn else 0) + total hidden after
   side-total h = ap (total hidden) (more h) ∙ total-chosen hidden turn after (on_side side at (width hidden turn))
 
   pub side-none-total : count.number ≤ i → total hidden here ≡ 0
@@ -61,7 +61,7 @@ module _ (n : ℕ) (m : List ℕ) (l hidden : Bool) (side : Side) (count : Segme
 
   module _ {B : Type 0} (f : Segment → B → Reading B) (d : B) where
     abbrev drawn : Reading B
-    drawn = if on_side side at (width hidden turn) then f turn d else done d
+    drawn = when on_side side at (width hidden turn) then f turn d else done d
 
     pub each_of : i < count.number → each f here d ≡ drawn >>= each f after
     each_of h = ap (λ (gs : List Segment). each f gs d) (more h) ∙ each_chosen f turn after d (on_side side at (width hidden turn))

@@ -1,6 +1,6 @@
 -- Document 01, "A row, left to right": segments and fill runs, the walk that makes a row's cells.
 use Rattle.std.specs.Prelude.{ℕ, ◌+◌, ◌-◌, ◌&&◌, List, ltb}
-use Rattle.memory.specs.Word.{if◌then◌else◌}
+use Rattle.memory.specs.Word.{when◌then◌else◌}
 use Rattle.memory.specs.declared.Fault.{Fault}
 use Rattle.memory.specs.declared.Pointer.{Pointer}
 use Rattle.memory.specs.Address.{null}
@@ -16,7 +16,7 @@ use Rattle.codes.specs.Codes.{Drawing, drawing, list_at, no_list, with_list, tak
 
 -- "With a null code pointer .. L has no meaning and no code is read."
 abbrev pub code_count : Segment → ℕ
-code_count g = if null g.codes then 0 else g.length
+code_count g = when null g.codes then 0 else g.length
 
 -- the cells up to a column have the fill code and the latch: "Fill is never ignored."
 unfoldable pub filled : FillMode → ℕ → Drawing → Drawing
@@ -31,7 +31,7 @@ module _ (σ : CodeSettings) (fill : FillMode) where
   unfoldable pub fill_by_word : ℕ → Drawing → Reading Drawing
   fill_by_word end d = do
     w ← word d.pen.list.next
-    if latches w
+    when latches w
         then done (filled fill end (drawing (taking σ.linear w d.pen) d.cells))
         else refuse (unlatched d.pen.list.next)
 
@@ -39,8 +39,8 @@ module _ (σ : CodeSettings) (fill : FillMode) where
   -- list in use .. No such segment, or a null list: the latch stands."
   unfoldable pub fill_to : ℕ → Drawing → Reading Drawing
   fill_to end d =
-      if ltb d.pen.column end
-      then (if fill.flag && d.pen.list.present then fill_by_word end d else done (filled fill end d))
+      when ltb d.pen.column end
+      then (when fill.flag && d.pen.list.present then fill_by_word end d else done (filled fill end d))
       else done d
 
   -- "Fill: unfilled cells of a segment .. are fill runs."

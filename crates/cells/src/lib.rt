@@ -1,7 +1,7 @@
 #![tactic(auto)]
 // The cells of a row, drawn left to right.
 ghost use Rattle.std.specs.Prelude.{◌≡◌, ◌+◌, ◌*◌, ◌≤◌, length};
-ghost use Rattle.memory.specs.Word.{if◌then◌else◌};
+ghost use Rattle.memory.specs.Word.{when◌then◌else◌};
 ghost use Rattle.memory.specs.Reading.{done, each, run_from};
 ghost use Rattle.blocks.specs.RowBlock.{segments_of};
 ghost use Rattle.layout.specs.Layout.{width, total, over, segments_on};
@@ -331,9 +331,9 @@ fn draw_chosen(
     words: u32,
     cells: &mut [u32],
 ) -> Drawn
-    requires { (pen.column + (if chosen then width settings.hidden g else 0) ≤ length cells.old) × (words ≤ 4000000000) }
-    ensures reached { Reached (pen.column + (if chosen then width settings.hidden g else 0)) (words + 512) result }
-    ensures cells_after { drawn result cells.new ≡ run_from words mem.now (if chosen then segment settings fill source g (so_far pen cells.old) else done (so_far pen cells.old)) }
+    requires { (pen.column + (when chosen then width settings.hidden g else 0) ≤ length cells.old) × (words ≤ 4000000000) }
+    ensures reached { Reached (pen.column + (when chosen then width settings.hidden g else 0)) (words + 512) result }
+    ensures cells_after { drawn result cells.new ≡ run_from words mem.now (when chosen then segment settings fill source g (so_far pen cells.old) else done (so_far pen cells.old)) }
 {
     if chosen {
         draw_segment(mem, settings, fill, source, g, pen, words, cells)

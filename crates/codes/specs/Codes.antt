@@ -1,6 +1,6 @@
 -- Document 01, "A row, left to right": the codes of a segment, each with its attribute, and the characters that they become.
 use Rattle.std.specs.Prelude.{ℕ, zero, suc, ◌+◌, Bool, true, false, ◌&&◌, ◌||◌, not, List, [], ◌∷◌, ◌++◌, take, replicate, ltb}
-use Rattle.memory.specs.Word.{if◌then◌else◌, high, low}
+use Rattle.memory.specs.Word.{when◌then◌else◌, high, low}
 use Rattle.memory.specs.Reading.{Reading, done, word, ◌>>=◌, each}
 use Rattle.memory.specs.declared.Pointer.{Pointer}
 use Rattle.memory.specs.Address.{nothing, null, onward}
@@ -43,8 +43,8 @@ with_list l d = drawing (using_list l d.pen) d.cells
 unfoldable pub taking : Bool → ℕ → Pen → Pen
 taking linear w p = record {
   column = p.column;
-  latch = if latches w then w else p.latch;
-  latched = if latches w then true else p.latched;
+  latch = when latches w then w else p.latch;
+  latched = when latches w then true else p.latched;
   list = record { present = p.list.present; next = onward linear p.list.next };
 }
 
@@ -55,7 +55,7 @@ put n value d = drawing (moved_to (d.pen.column + n) d.pen) (d.cells ++ replicat
 -- "ignore .. keeps the character out of the row unless DH is set"; "those with no room left are dropped"
 unfoldable pub character : Bool → Source → ℕ → ℕ → ℕ → Drawing → Drawing
 character hidden source end attribute code d =
-    if (hidden || not (ignores attribute)) && ltb d.pen.column end then put 1 (cell source attribute code) d else d
+    when (hidden || not (ignores attribute)) && ltb d.pen.column end then put 1 (cell source attribute code) d else d
 
 module _ (σ : CodeSettings) where
   -- "A code invokes an attribute when .. its segment's attribute pointer is not null (ours). It takes the next word of that
@@ -63,7 +63,7 @@ module _ (σ : CodeSettings) where
   -- the latch."
   unfoldable pub examine : Source → ℕ → ℕ → Drawing → Reading Drawing
   examine source end code d =
-      if invokes σ.flag code && d.pen.list.present
+      when invokes σ.flag code && d.pen.list.present
       then (word d.pen.list.next >>= λ w. done (character σ.hidden source end w code (drawing (taking σ.linear w d.pen) d.cells)))
       else done (character σ.hidden source end d.pen.latch code d)
 

@@ -9,7 +9,7 @@ use native.Mathlib.Nat.{le_refl}
 use native.Mathlib.Omega.{arith}
 use Rattle.memory.specs.declared.Fault.{Fault}
 use Rattle.memory.specs.declared.Pointer.{Pointer}
-use Rattle.memory.specs.Word.{if◌then◌else◌}
+use Rattle.memory.specs.Word.{when◌then◌else◌}
 use Rattle.memory.specs.Reading.{Role, Ask, Reading, done, refuse, ask, ◌>>=◌, in_role, read_as, nobody, check_of, check, each}
 use Rattle.holding.proofs.Holds.{Each}
 use Rattle.converter.specs.Walk.{mark, word_of, read_on}
@@ -56,7 +56,7 @@ module _ (held : ℕ) (m : List ℕ) where
   check-then n b f = check-of-then n nobody b f
 
   pub if-alike : {A B : Type 0} {R : ℕ → A → B → Type 0} {c : ℕ} (b : Bool) {p₁ p₂ : Reading A} {q₁ q₂ : Reading B}
-      → (b ≡ true → Alike R c p₁ q₁) → (b ≡ false → Alike R c p₂ q₂) → Alike R c (if b then p₁ else p₂) (if b then q₁ else q₂)
+      → (b ≡ true → Alike R c p₁ q₁) → (b ≡ false → Alike R c p₂ q₂) → Alike R c (when b then p₁ else p₂) (when b then q₁ else q₂)
   if-alike true h k = h refl
   if-alike false h k = k refl
 

@@ -7,7 +7,7 @@ use native.Mathlib.Omega.{arith}
 use lib.ListN.{get_or, drop}
 use lib.Dec.{ltb, leb, lit<}
 use Rattle.memory.specs.declared.Pointer.{Pointer}
-use Rattle.memory.specs.Word.{if◌then◌else◌, bit, at}
+use Rattle.memory.specs.Word.{when◌then◌else◌, bit, at}
 use Rattle.memory.specs.Reading.{Role, First, Second, Other, Reading, ◌>>=◌, read_as, one_pointer}
 use Rattle.memory.specs.Address.{nothing, pointer, null, ahead, further, words}
 use Rattle.memory.proofs.ReadBounds.{Words}
@@ -116,7 +116,7 @@ module _ (m : List ℕ) (b : Words m) where
         }))
 
     rest-alike : (c : ℕ) (p : Pointer) (ws vs : List ℕ) (t : Bool) → Passed m b held one_pointer 3 p p c ws vs
-        → Gives Linked c (rest_of_block false p ws (if t then 2 else 0)) (rest_of_block true p vs (if t then 2 else 0))
+        → Gives Linked c (rest_of_block false p ws (when t then 2 else 0)) (rest_of_block true p vs (when t then 2 else 0))
     unfolding rest_of_block words read_as ◌>>=◌ ahead
     rest-alike c p ws vs true h =
         bind held m (words-alike m b held one_pointer 2 c (further false 3 p) (further true 3 p) h.after) λ n re se _ x.

@@ -8,7 +8,7 @@ use lib.ListN.{length, get_or}
 use lib.Dec.{eqb}
 use borrow.Author.Tests.{eq-eqb}
 use Rattle.memory.specs.declared.Refusal.{Refusal}
-use Rattle.memory.specs.Word.{if◌then◌else◌}
+use Rattle.memory.specs.Word.{when◌then◌else◌}
 use Rattle.memory.specs.Reading.{fault, refusal}
 use Rattle.memory.proofs.ReadBounds.{Words}
 use Rattle.settings.specs.declared.Settings.{Settings}
@@ -96,8 +96,8 @@ module _ (σ : Settings) (m : List ℕ) where
   by-followed (stopped r) e = let q : ◌≡◌ {A = ℕ} 0 1 = cc in absurd (omega arith)
 
   by_tests : (t g l : Bool) (f : Followed) (x y z : Refusal) {c : Conversion}
-      → (if t then (if g then (if l then kept m x else convert_by σ m f) else kept m y) else kept m z).answer ≡ Accepted c
-      → Accepts σ m g l f c (if t then (if g then (if l then kept m x else convert_by σ m f) else kept m y) else kept m z).memory
+      → (when t then (when g then (when l then kept m x else convert_by σ m f) else kept m y) else kept m z).answer ≡ Accepted c
+      → Accepts σ m g l f c (when t then (when g then (when l then kept m x else convert_by σ m f) else kept m y) else kept m z).memory
   by_tests true true false f x y z e = by-followed f e
   by_tests false g l f x y z e = let q : ◌≡◌ {A = ℕ} 0 1 = cc in absurd (omega arith)
   by_tests true false l f x y z e = let q : ◌≡◌ {A = ℕ} 0 1 = cc in absurd (omega arith)
@@ -111,13 +111,13 @@ module _ (σ : Settings) (m : List ℕ) where
 
 -- a word of the memory after, by whether the first word of a pointer was read there
 turned_by : (latch : ℕ) (σ : Settings) (m : List ℕ) (b : Words m) (fin : List ℕ) → Parts latch σ m b fin → (i : ℕ)
-    → get_or (turned_memory fin m) i 0 ≡ (if is_read i (frame_pointers latch (segmented σ) m) then turned_first (get_or m i 0) else get_or m i 0)
+    → get_or (turned_memory fin m) i 0 ≡ (when is_read i (frame_pointers latch (segmented σ) m) then turned_first (get_or m i 0) else get_or m i 0)
 turned_by latch σ m b fin x i = turned-word fin m i ∙ by_read (is_read i (frame_pointers latch (segmented σ) m)) refl
   where
     by_read : (t : Bool) → is_read i (frame_pointers latch (segmented σ) m) ≡ t
-        → turned (get_or fin i 0) (get_or m i 0) ≡ (if t then turned_first (get_or m i 0) else get_or m i 0)
+        → turned (get_or fin i 0) (get_or m i 0) ≡ (when t then turned_first (get_or m i 0) else get_or m i 0)
     by_read true h = ap (λ (k : ℕ). turned k (get_or m i 0)) (frame-first latch σ m b fin i x h)
-    by_read false h = ap (λ (t : Bool). if t then turned_first (get_or m i 0) else get_or m i 0) (frame-other latch σ m b fin i x h)
+    by_read false h = ap (λ (t : Bool). when t then turned_first (get_or m i 0) else get_or m i 0) (frame-other latch σ m b fin i x h)
 
 -- the turn does not look at the mode
 turned_same : (σ : Settings) → turned_settings σ ≡ turned_settings (segmented σ)

@@ -8,7 +8,7 @@ use lib.ListN.{length, get_or, replicate, length-replicate, length-set}
 use lib.Seq.{get_or-set_other}
 use lib.Dec.{ltb, eqb}
 use borrow.Author.Tests.{ltb-true, eqb-true, eqb-false}
-use Rattle.memory.specs.Word.{if◌then◌else◌}
+use Rattle.memory.specs.Word.{when◌then◌else◌}
 use Rattle.memory.specs.Reading.{Role, First, Second, Other, Ask, Reading, done, refuse, ask, ◌>>=◌, given, refused, absent, run_from, run}
 use Rattle.memory.proofs.Laws.{bind-given}
 use Rattle.memory.proofs.ReadBounds.{Words}
@@ -68,9 +68,9 @@ firsts-then {A} n m (ask q f) k {i} {a} e = by_place (ltb (q.address / 2) (lengt
     next : Reading A
     next = f (get_or m (q.address / 2) 0)
 
-    by_place : (t : Bool) → (if t then run_from (n + 1) m next else refused (absent q)) ≡ given i a
+    by_place : (t : Bool) → (when t then run_from (n + 1) m next else refused (absent q)) ≡ given i a
         → (run_from (n + 1) m next ≡ given i a → first_words m (next >>= k) ≡ first_words m next ++ first_words m (k a))
-        → if_first q.role q.address (if t then first_words m (next >>= k) else []) ≡ if_first q.role q.address (if t then first_words m next else []) ++ first_words m (k a)
+        → if_first q.role q.address (when t then first_words m (next >>= k) else []) ≡ if_first q.role q.address (when t then first_words m next else []) ++ first_words m (k a)
     by_place true h rest = ap (if_first q.role q.address) (rest h) ∙ if-first q.role q.address (first_words m next) (first_words m (k a))
     by_place false h rest = let z : ◌≡◌ {A = ℕ} 0 1 = cc in absurd (omega arith)
 

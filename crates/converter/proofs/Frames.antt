@@ -7,7 +7,7 @@ use Prim.Native.Nat.{ℕ, ◌+◌, ◌/◌, ◌≤◌, ◌<◌}
 use native.Mathlib.Omega.{arith}
 use lib.ListN.{length, get_or, replicate, length-replicate}
 use lib.Dec.{ltb, lit≤}
-use Rattle.memory.specs.Word.{if◌then◌else◌}
+use Rattle.memory.specs.Word.{when◌then◌else◌}
 use Rattle.memory.specs.Reading.{Reading, done, refuse, ask, ◌>>=◌, given, refused, absent, run_from, run, asked}
 use Rattle.memory.proofs.Laws.{bind-given}
 use Rattle.memory.proofs.ReadBounds.{Words, Reads, reads-given}
@@ -37,10 +37,10 @@ asked-then n m (done x) k {a} e = let same : x ≡ a = cc in ap (λ y. asked m (
 asked-then n m (refuse x) k e = let q : ◌≡◌ {A = ℕ} 0 1 = cc in absurd (omega arith)
 asked-then {A} n m (ask q f) k {i} {a} e = by_place (ltb (q.address / 2) (length m)) e (asked-then (n + 1) m (f (get_or m (q.address / 2) 0)) k)
   where
-    by_place : (t : Bool) → (if t then run_from (n + 1) m (f (get_or m (q.address / 2) 0)) else refused (absent q)) ≡ given i a
+    by_place : (t : Bool) → (when t then run_from (n + 1) m (f (get_or m (q.address / 2) 0)) else refused (absent q)) ≡ given i a
         → (run_from (n + 1) m (f (get_or m (q.address / 2) 0)) ≡ given i a
         → asked m (f (get_or m (q.address / 2) 0) >>= k) ≡ asked m (f (get_or m (q.address / 2) 0)) ++ asked m (k a))
-        → q.address ∷ (if t then asked m (f (get_or m (q.address / 2) 0) >>= k) else []) ≡ (q.address ∷ (if t then asked m (f (get_or m (q.address / 2) 0)) else [])) ++ asked m (k a)
+        → q.address ∷ (when t then asked m (f (get_or m (q.address / 2) 0) >>= k) else []) ≡ (q.address ∷ (when t then asked m (f (get_or m (q.address / 2) 0)) else [])) ++ asked m (k a)
     by_place true h rest = ap (◌∷◌ q.address) (rest h)
     by_place false h rest = let z : ◌≡◌ {A = ℕ} 0 1 = cc in absurd (omega arith)
 

@@ -10,7 +10,7 @@ use lib.Seq.{get_or-drop}
 use lib.Dec.{ltb, eqb}
 use borrow.Author.Tests.{ltb-true, ltb-false, eqb-true, eqb-false, not-false, eq-eqb, ne_eqb}
 use Rattle.memory.specs.declared.Pointer.{Pointer}
-use Rattle.memory.specs.Word.{if◌then◌else◌, at}
+use Rattle.memory.specs.Word.{when◌then◌else◌, at}
 use Rattle.memory.specs.Reading.{Role, First, Second, Other, Reading, done, ◌>>=◌, read_as}
 use Rattle.memory.specs.Address.{to, pointer, null, place, next_word, ahead, onward, further, words}
 use Rattle.memory.proofs.ReadBounds.{Words}
@@ -28,12 +28,12 @@ turned-pointer from f s =
     ap (λ (g : ℕ). to from ((g * 65536 + s) / 2 * 2)) page
 
 -- a pointer begins where its first word is, unless it is null
-begins-at : (from f s : ℕ) → (pointer false from f s).from ≡ (if null (pointer false from f s) then 0 else from)
+begins-at : (from f s : ℕ) → (pointer false from f s).from ≡ (when null (pointer false from f s) then 0 else from)
 unfolding pointer
 begins-at from f s = refl
 
 begins : (from f s : ℕ) → null (pointer false from f s) ≡ false → (pointer false from f s).from ≡ from
-begins from f s e = begins-at from f s ∙ ap (λ (b : Bool). if b then 0 else from) e
+begins from f s e = begins-at from f s ∙ ap (λ (b : Bool). when b then 0 else from) e
 
 pub even : (from f s : ℕ) → (pointer false from f s).address % 2 ≡ 0
 unfolding pointer

@@ -5,7 +5,7 @@ use mathlib.Core.List.{List}
 use Prim.Native.Nat.{ℕ, ◌+◌, ◌-◌, ◌<◌}
 use lib.Dec.{ltb, leb}
 use borrow.Author.Tests.{not-true}
-use Rattle.memory.specs.Word.{if◌then◌else◌}
+use Rattle.memory.specs.Word.{when◌then◌else◌}
 use Rattle.memory.specs.Address.{pointer, null}
 use Rattle.memory.proofs.ReadBounds.{Words}
 use Rattle.settings.specs.declared.PointerWords.{PointerWords}
@@ -65,7 +65,7 @@ register-begins : (w : PointerWords) → (registered false w).from ≡ 0
 unfolding pointer
 register-begins w = if-same (null (registered false w))
   where
-    if-same : (b : Bool) → ◌≡◌ {A = ℕ} (if b then 0 else 0) 0
+    if-same : (b : Bool) → ◌≡◌ {A = ℕ} (when b then 0 else 0) 0
     if-same true = refl
     if-same false = refl
 

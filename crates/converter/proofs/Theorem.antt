@@ -8,7 +8,7 @@ use Prim.Native.Nat.{ℕ, zero, suc, ◌≤◌}
 use native.Mathlib.Omega.{arith}
 use lib.ListN.{length}
 use lib.Dec.{eqb, lit≤}
-use Rattle.memory.specs.Word.{if◌then◌else◌}
+use Rattle.memory.specs.Word.{when◌then◌else◌}
 use Rattle.memory.specs.Reading.{given, run}
 use Rattle.memory.proofs.ReadBounds.{Words, Reads}
 use Rattle.memory.proofs.ReadBounds as Bounds
@@ -100,7 +100,7 @@ module _ (σ : Settings) (m : List ℕ) (b : Words m) where
         by-walk later (halted x) h f g = let q : ◌≡◌ {A = ℕ} 0 1 = cc in absurd (omega arith)
 
         by_left : Then n → (t : Bool) → eqb s.fields.left 0 ≡ t
-            → (if t then ended marks else onwards s.fields.row (walk 0 m marks (row_below (segmented σ) s)) next) ≡ ended fin → Rows (suc n) marks s
+            → (when t then ended marks else onwards s.fields.row (walk 0 m marks (row_below (segmented σ) s)) next) ≡ ended fin → Rows (suc n) marks s
         by_left later true h g = let same : marks ≡ fin = cc in over h same
         by_left later false h g = by-walk later (walk 0 m marks (row_below (segmented σ) s)) refl h g
 

@@ -6,7 +6,7 @@ use Prim.Native.Nat.{ℕ, ◌/◌}
 use lib.ListN.{length}
 use lib.Dec.{ltb}
 use Rattle.memory.specs.declared.Fault.{Fault}
-use Rattle.memory.specs.Word.{if◌then◌else◌}
+use Rattle.memory.specs.Word.{when◌then◌else◌}
 use Rattle.memory.specs.Reading.{Ask, Reading, done, refuse, ask, fault, absent, ◌>>=◌, check}
 use Rattle.converter.specs.Walk.{word_of, read_on, over_page_end, shared, shared_word, marked, Walked, went, halted, walk}
 
@@ -16,7 +16,7 @@ next (went marks a) k = k marks a
 next (halted x) k = halted x
 
 if-next : {A B : Type 0} (r t s : Bool) (x y z : Fault) (w : Walked A) (k : List ℕ → A → Walked B)
-    → (if r then halted x else if t then (if s then halted y else next w k) else halted z) ≡ next (if r then halted x else if t then (if s then halted y else w) else halted z) k
+    → (when r then halted x else when t then (when s then halted y else next w k) else halted z) ≡ next (when r then halted x else when t then (when s then halted y else w) else halted z) k
 if-next true t s x y z w k = refl
 if-next false true true x y z w k = refl
 if-next false true false x y z w k = refl

@@ -10,7 +10,7 @@ use lib.Seq.{get_or-set_same, get_or-set_other}
 use lib.Dec.{ltb, eqb}
 use borrow.Author.Tests.{ltb-true, eqb-true, eqb-false, not-false}
 use Rattle.memory.specs.declared.Fault.{Fault}
-use Rattle.memory.specs.Word.{if◌then◌else◌}
+use Rattle.memory.specs.Word.{when◌then◌else◌}
 use Rattle.memory.specs.Reading.{Role, First, Second, Other, Ask, Reading, done, refuse, ask, given, absent, run_from, asked}
 use Rattle.memory.proofs.ReadBounds.{Words, Reads}
 use Rattle.memory.proofs.ReadBounds as Bounds
@@ -28,7 +28,7 @@ turned-length (k ∷ marks) (w ∷ m) = ap suc (turned-length marks m)
 turned_none : (k : ℕ) → turned k 0 ≡ 0
 turned_none k = if-same (eqb k 1)
   where
-    if-same : (b : Bool) → ◌≡◌ {A = ℕ} (if b then 0 else 0) 0
+    if-same : (b : Bool) → ◌≡◌ {A = ℕ} (when b then 0 else 0) 0
     if-same true = refl
     if-same false = refl
 
@@ -54,7 +54,7 @@ module _ (held : ℕ) (m : List ℕ) where
     rest : w ≡ o
 
   tests : {A : Type 0} (r t s : Bool) (x y z : Fault) (w : Walked A) {marks : List ℕ} {a : A}
-      → (if r then halted x else if t then (if s then halted y else w) else halted z) ≡ went marks a → Passes r t s w (went marks a)
+      → (when r then halted x else when t then (when s then halted y else w) else halted z) ≡ went marks a → Passes r t s w (went marks a)
   tests false true false x y z w e = record { on = refl; there = refl; apart = refl; rest = e }
   tests true t s x y z w e = let q : ◌≡◌ {A = ℕ} 0 1 = cc in absurd (omega arith)
   tests false false s x y z w e = let q : ◌≡◌ {A = ℕ} 0 1 = cc in absurd (omega arith)

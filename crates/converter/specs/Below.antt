@@ -2,7 +2,7 @@
 -- checks on the settings are met. The converter follows these; a segmented frame is one.
 use Rattle.std.specs.Prelude.{ℕ, zero, suc, ◌/◌, List, [], ◌∷◌, ◌++◌, length, get_or, ltb, eqb}
 use Rattle.std.proofs.Math.Option.{none}
-use Rattle.memory.specs.Word.{if◌then◌else◌}
+use Rattle.memory.specs.Word.{when◌then◌else◌}
 use Rattle.memory.specs.Reading.{Role, First, Second, Other, Reading, done, refuse, ask, ◌>>=◌, Outcome, given, refused, run, asked}
 use Rattle.settings.specs.declared.Settings.{Settings}
 use Rattle.state.specs.declared.State.{State}
@@ -27,7 +27,7 @@ row_below σ s = do
 unfoldable pub step_below : Settings → List ℕ → Progress → Stepped
 step_below σ m p =
     let c : Called = answered σ p.state.fields blank (run m (row_below σ p.state)) in
-    if eqb p.state.fields.left 0
+    when eqb p.state.fields.left 0
     then stepped (Ended p.state.fields.row p.words) blank
     else stepped (row_step p c.answer) c.buffer
 
@@ -56,7 +56,7 @@ then_read next (refused x) = []
 unfoldable pub rows_read : ℕ → Settings → List ℕ → State → List ℕ
 rows_read zero σ m s = []
 rows_read (suc n) σ m s =
-    if eqb s.fields.left 0 then []
+    when eqb s.fields.left 0 then []
     else asked m (row_below σ s) ++ then_read (λ r. rows_read n σ m (state_after r)) (run m (row_below σ s))
 
 unfoldable pub frame_read : ℕ → Settings → List ℕ → List ℕ
@@ -72,12 +72,12 @@ if_first Other a rest = rest
 unfoldable pub first_words : {A : Type 0} → List ℕ → Reading A → List ℕ
 first_words m (done a) = []
 first_words m (refuse x) = []
-first_words m (ask q f) = if_first q.role q.address (if ltb (q.address / 2) (length m) then first_words m (f (get_or m (q.address / 2) 0)) else [])
+first_words m (ask q f) = if_first q.role q.address (when ltb (q.address / 2) (length m) then first_words m (f (get_or m (q.address / 2) 0)) else [])
 
 unfoldable pub rows_pointers : ℕ → Settings → List ℕ → State → List ℕ
 rows_pointers zero σ m s = []
 rows_pointers (suc n) σ m s =
-    if eqb s.fields.left 0 then []
+    when eqb s.fields.left 0 then []
     else first_words m (row_below σ s) ++ then_read (λ r. rows_pointers n σ m (state_after r)) (run m (row_below σ s))
 
 unfoldable pub frame_pointers : ℕ → Settings → List ℕ → List ℕ

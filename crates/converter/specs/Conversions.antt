@@ -2,7 +2,7 @@
 use Rattle.std.specs.Prelude.{ℕ, ◌+◌, ◌/◌, ◌<◌, ◌≡◌, Bool, true, false, ◌||◌, List, [], ◌∷◌, length, get_or, eqb}
 use Rattle.std.proofs.Math.Option.{none}
 use Rattle.memory.specs.declared.Pointer.{Pointer}
-use Rattle.memory.specs.Word.{if◌then◌else◌}
+use Rattle.memory.specs.Word.{when◌then◌else◌}
 use Rattle.memory.specs.Reading.{asking, fault, refusal}
 use Rattle.memory.specs.Address.{pointer, place, ahead, further}
 use Rattle.settings.specs.declared.Settings.{Settings}
@@ -30,7 +30,7 @@ pub record Turns (latch : ℕ) (σ : Settings) (m after : List ℕ) (c : Convers
   -- the same words are read, in the same order
   pub same_addresses : frame_read latch c.settings after ≡ frame_read latch σ m
   -- "turns each pointer read there .. once": the first word of each pointer that is read is turned, any other word stays
-  pub turned : (i : ℕ) → get_or after i 0 ≡ (if is_read i (frame_pointers latch σ m) then turned_first (get_or m i 0) else get_or m i 0)
+  pub turned : (i : ℕ) → get_or after i 0 ≡ (when is_read i (frame_pointers latch σ m) then turned_first (get_or m i 0) else get_or m i 0)
   -- so what the frame does not read stays
   pub unread : (i : ℕ) → is_read i (frame_read latch σ m) ≡ false → get_or after i 0 ≡ get_or m i 0
   pub size : length after ≡ length m

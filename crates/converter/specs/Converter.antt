@@ -1,6 +1,6 @@
 -- Document 02, "Segmented memory goes away": the converter.
 use Rattle.std.specs.Prelude.{ℕ, zero, suc, ◌+◌, ◌/◌, ◌%◌, true, false, List, [], ◌∷◌, length, replicate, eqb}
-use Rattle.memory.specs.Word.{if◌then◌else◌}
+use Rattle.memory.specs.Word.{when◌then◌else◌}
 use Rattle.memory.specs.declared.Refusal.{Refusal}
 use Rattle.memory.specs.Reading.{First, fault, refusal}
 use Rattle.settings.specs.declared.PointerWords.{PointerWords}
@@ -30,7 +30,7 @@ onwards row (halted x) next = stopped (refusal row x)
 unfoldable pub follow_rows : ℕ → Settings → (m marks : List ℕ) → State → Followed
 follow_rows zero σ m marks s = ended marks
 follow_rows (suc n) σ m marks s =
-    if eqb s.fields.left 0 then ended marks
+    when eqb s.fields.left 0 then ended marks
     else onwards s.fields.row (walk 0 m marks (row_below σ s)) λ marks₁ r. follow_rows n σ m marks₁ (state_after r)
 
 -- the first window, by TOW, and the rows from there
@@ -52,7 +52,7 @@ turned_first w = w / 256 % 128
 
 -- a word with its mark: "turns each pointer read there .. once"
 abbrev pub turned : (mark word : ℕ) → ℕ
-turned k w = if eqb k (mark First) then turned_first w else w
+turned k w = when eqb k (mark First) then turned_first w else w
 
 unfoldable pub turned_memory : (marks m : List ℕ) → List ℕ
 turned_memory marks [] = []
@@ -85,7 +85,7 @@ turned_settings σ = record {
 
 -- "counting those whose words change": 1 for a word that another one takes the place of. Second words are kept, so a pointer counts by its first.
 abbrev pub change : (old new : ℕ) → ℕ
-change old new = if eqb new old then 0 else 1
+change old new = when eqb new old then 0 else 1
 
 unfoldable pub changes : (old new : List ℕ) → ℕ
 changes [] new = 0
@@ -114,8 +114,8 @@ convert_by σ m (ended marks) =
 -- "22, another number of marks, first; 26, linear settings, after 2"; then as the walk meets them. `marks` is the number of marks lent.
 unfoldable pub convert_call : ℕ → Settings → List ℕ → (marks : ℕ) → Called
 convert_call latch σ m marks =
-    if eqb marks (length m)
-    then (if good σ
-    then (if σ.linear then kept m (refusal 0 (fault 26)) else convert_by σ m (follow latch σ m))
+    when eqb marks (length m)
+    then (when good σ
+    then (when σ.linear then kept m (refusal 0 (fault 26)) else convert_by σ m (follow latch σ m))
     else kept m (refusal 0 (fault 2)))
     else kept m (refusal 0 (fault 22))

@@ -2,7 +2,7 @@
 -- what the frame reads is what the definitions that draw it ask for, word by word, each with its role.
 use Rattle.std.specs.Prelude.{ℕ, ◌/◌, Bool, false, ◌&&◌, not, List, length, get_or, set, ltb, eqb}
 use Rattle.memory.specs.declared.Fault.{Fault}
-use Rattle.memory.specs.Word.{if◌then◌else◌}
+use Rattle.memory.specs.Word.{when◌then◌else◌}
 use Rattle.memory.specs.Reading.{Role, First, Second, Other, Ask, Reading, done, refuse, ask, absent}
 use Rattle.memory.specs.Address.{pointer, page, place, address_of, next_word}
 
@@ -18,7 +18,7 @@ word_of m a = get_or m (a / 2) 0
 
 -- where the segmented pointer in use points: its two words stand where it begins; "0 when a register held it", which then holds `held`
 unfoldable pub points_at : (held : ℕ) → List ℕ → (from : ℕ) → ℕ
-points_at held m from = if eqb from 0 then held else (pointer false from (word_of m from) (word_of m (next_word false from))).address
+points_at held m from = when eqb from 0 then held else (pointer false from (word_of m from) (word_of m (next_word false from))).address
 
 -- Refusal 18: "a block or list read on over its page end (address of the page's last word)". The word asked for begins a page, and the
 -- pointer in use does not point there: a step led to it, from FFFE to 0.
@@ -49,7 +49,7 @@ unfoldable pub walk : {A : Type 0} → (held : ℕ) → (m marks : List ℕ) →
 walk held m marks (done a) = went marks a
 walk held m marks (refuse x) = halted x
 walk held m marks (ask q f) =
-    if read_on held m q.address q.from then halted (over_page_end q)
-    else if ltb (q.address / 2) (length m)
-    then (if shared marks q then halted (shared_word q) else walk held m (marked marks q) (f (word_of m q.address)))
+    when read_on held m q.address q.from then halted (over_page_end q)
+    else when ltb (q.address / 2) (length m)
+    then (when shared marks q then halted (shared_word q) else walk held m (marked marks q) (f (word_of m q.address)))
     else halted (absent q)

@@ -9,7 +9,7 @@ use lib.IntN.{ℤ, pos}
 use lib.Signed.{lt_z}
 use lib.ListN.{length, get_or}
 use lib.Dec.{eqb, ltb}
-use Rattle.memory.specs.Word.{if◌then◌else◌}
+use Rattle.memory.specs.Word.{when◌then◌else◌}
 use Rattle.memory.specs.Reading.{Reading, done, refuse, ask, ◌>>=◌, Outcome, given, refused, fault, refusal, run_from, run, asked}
 use Rattle.memory.proofs.Agree.{All, none, also, SameWord, same_outcome}
 use Rattle.settings.specs.declared.Settings.{Settings}
@@ -61,7 +61,7 @@ module _ (m₁ m₂ : List ℕ) (len : length m₁ ≡ length m₂) where
 
 -- what a reading asks for that goes on with another: the first one's, then what the other asks for
 module _ {A B : Type 0} {P : ℕ → Type 0} (m : List ℕ) (k : A → Reading B) where
-  if-all : (t : Bool) (a : ℕ) (l₁ l₂ : List ℕ) → (All P l₁ → All P l₂) → All P (a ∷ (if t then l₁ else [])) → All P (a ∷ (if t then l₂ else []))
+  if-all : (t : Bool) (a : ℕ) (l₁ l₂ : List ℕ) → (All P l₁ → All P l₂) → All P (a ∷ (when t then l₁ else [])) → All P (a ∷ (when t then l₂ else []))
   if-all true a l₁ l₂ f (also x h) = also x (f h)
   if-all false a l₁ l₂ f h = h
 
@@ -72,7 +72,7 @@ module _ {A B : Type 0} {P : ℕ → Type 0} (m : List ℕ) (k : A → Reading B
   asked-first (ask q f) h = if-all (ltb (q.address / 2) (length m)) q.address _ _ (asked-first (f (get_or m (q.address / 2) 0))) h
 
   if-next : (t : Bool) (a : ℕ) (l₁ l₂ : List ℕ) {o₁ o₂ o : Outcome A} → (o₁ ≡ o → All P l₁ → All P l₂) → (o₂ ≡ o → ⊥)
-      → (if t then o₁ else o₂) ≡ o → All P (a ∷ (if t then l₁ else [])) → All P l₂
+      → (when t then o₁ else o₂) ≡ o → All P (a ∷ (when t then l₁ else [])) → All P l₂
   if-next true a l₁ l₂ f never e (also x h) = f e h
   if-next false a l₁ l₂ f never e h = absurd (never e)
 
@@ -90,7 +90,7 @@ module _ (m₁ m₂ : List ℕ) (len : length m₁ ≡ length m₂) where
   unfolding row_above start_call
   above_same σ latch b k =
       let h = read_all m₁ m₂ len (asked m₁ (start_from latch σ >>= row σ)) k in
-      ap (λ (c : BesideCalled). if eqb (length b) 132 then c else beside_called (Refused (refusal 0 (fault 1))) b)
+      ap (λ (c : BesideCalled). when eqb (length b) 132 then c else beside_called (Refused (refusal 0 (fault 1))) b)
       (by-start h (run m₁ (start_from latch σ)) refl
       ∙ ap (λ o. after_start σ m₂ b (started o)) (same_outcome m₁ m₂ len (start_from latch σ) 0 (asked-first m₁ (row σ) (start_from latch σ) h)))
     where
@@ -119,9 +119,9 @@ module _ (m₁ m₂ : List ℕ) (len : length m₁ ≡ length m₂) where
     where
       by-shift : {A : Type 0} (t u : Bool) (x₁ x₂ y₁ y₂ z : A) (k₁ k₂ l₁ l₂ : List ℕ)
           → (All (SameWord m₁ m₂) k₁ → Equal x₁ x₂ k₁ k₂) → (All (SameWord m₁ m₂) l₁ → Equal y₁ y₂ l₁ l₂)
-          → All (SameWord m₁ m₂) (if t then k₁ else if u then l₁ else [])
-          → Equal (if t then x₁ else if u then y₁ else z) (if t then x₂ else if u then y₂ else z)
-          (if t then k₁ else if u then l₁ else []) (if t then k₂ else if u then l₂ else [])
+          → All (SameWord m₁ m₂) (when t then k₁ else when u then l₁ else [])
+          → Equal (when t then x₁ else when u then y₁ else z) (when t then x₂ else when u then y₂ else z)
+          (when t then k₁ else when u then l₁ else []) (when t then k₂ else when u then l₂ else [])
       by-shift true u x₁ x₂ y₁ y₂ z k₁ k₂ l₁ l₂ f g h = f h
       by-shift false true x₁ x₂ y₁ y₂ z k₁ k₂ l₁ l₂ f g h = g h
       by-shift false false x₁ x₂ y₁ y₂ z k₁ k₂ l₁ l₂ f g h = record { frames = refl; addresses = refl }

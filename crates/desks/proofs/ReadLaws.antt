@@ -7,7 +7,7 @@ use native.Mathlib.Omega.{arith}
 use lib.ListN.{length, get_or, get_or-eq_default}
 use lib.Dec.{ltb}
 use borrow.Author.Tests.{ltb-false}
-use Rattle.memory.specs.Word.{if◌then◌else◌}
+use Rattle.memory.specs.Word.{when◌then◌else◌}
 use Rattle.memory.specs.declared.Fault.{Fault}
 use Rattle.memory.specs.Reading.{Reading, done, refuse, ask, absent, Outcome, given, refused, run_from, asked}
 use Rattle.memory.proofs.Agree.{All, none, also, SameWord, same_outcome, same-addresses}
@@ -19,7 +19,7 @@ unfolding in_memory
 all_in m none = none
 all_in {P} m (also {x = a} {xs = l} h hs) = by-test (ltb (a / 2) (length m)) (all_in m hs)
   where
-    by-test : (t : Bool) → All P (in_memory m l) → All P (if t then a ∷ in_memory m l else in_memory m l)
+    by-test : (t : Bool) → All P (in_memory m l) → All P (when t then a ∷ in_memory m l else in_memory m l)
     by-test true k = also h k
     by-test false k = k
 
@@ -37,7 +37,7 @@ module _ (m₁ m₂ : List ℕ) (len : length m₁ ≡ length m₂) where
   read_all (a ∷ l) = by-test (ltb (a / 2) (length m₁)) refl (read_all l)
     where
       by-test : (t : Bool) → ltb (a / 2) (length m₁) ≡ t → (All (SameWord m₁ m₂) (in_memory m₁ l) → All (SameWord m₁ m₂) l)
-          → All (SameWord m₁ m₂) (if t then a ∷ in_memory m₁ l else in_memory m₁ l) → All (SameWord m₁ m₂) (a ∷ l)
+          → All (SameWord m₁ m₂) (when t then a ∷ in_memory m₁ l else in_memory m₁ l) → All (SameWord m₁ m₂) (a ∷ l)
       by-test true e f (also h hs) = also h (f hs)
       by-test false e f h = also (outside a e) (f h)
 
@@ -58,8 +58,8 @@ module _ (m₁ m₂ : List ℕ) (len : length m₁ ≡ length m₂) where
 
 -- a reading that comes to a result reads every word that it asks for: an accepted call's list has the words read
 if-given : {A : Type 0} (t : Bool) (m : List ℕ) (a : ℕ) (l : List ℕ) (x : Fault) {o : Outcome A} {n : ℕ} {r : A}
-    → (o ≡ given n r → in_memory m l ≡ l) → (if t then o else refused x) ≡ given n r
-    → (if t then a ∷ in_memory m (if t then l else []) else in_memory m (if t then l else [])) ≡ a ∷ (if t then l else [])
+    → (o ≡ given n r → in_memory m l ≡ l) → (when t then o else refused x) ≡ given n r
+    → (when t then a ∷ in_memory m (when t then l else []) else in_memory m (when t then l else [])) ≡ a ∷ (when t then l else [])
 if-given true m a l x f e = ap (◌∷◌ a) (f e)
 if-given false m a l x f e = let q : ◌≡◌ {A = ℕ} 0 1 = cc in absurd (omega arith)
 

@@ -7,7 +7,7 @@ use Prim.Native.Nat.{ℕ, zero, suc}
 use lib.ListN.{length}
 use lib.Dec.{eqb}
 use borrow.Author.Tests.{eqb-true}
-use Rattle.memory.specs.Word.{if◌then◌else◌}
+use Rattle.memory.specs.Word.{when◌then◌else◌}
 use Rattle.memory.specs.Reading.{fault, refusal}
 use Rattle.memory.proofs.Agree.{All, SameWord}
 use Rattle.settings.specs.declared.Settings.{Settings}
@@ -45,13 +45,13 @@ module _ (m₁ m₂ : List ℕ) (len : length m₁ ≡ length m₂) where
 -- a row lent another number of cells is refused 1, whatever it would find
 wrong-buffer : (σ : Settings) (m : List ℕ) (after : Progress → Frame) (p : Progress) (b : List ℕ) → eqb (length b) 132 ≡ false
     → by_step after p (step σ m p b)
-    ≡ (if eqb p.state.fields.left 0 then Frame.stopped none p else Frame.stopped (some (refusal p.state.fields.row (fault 1))) p)
+    ≡ (when eqb p.state.fields.left 0 then Frame.stopped none p else Frame.stopped (some (refusal p.state.fields.row (fault 1))) p)
 unfolding step row_call
 wrong-buffer σ m after p b t = rw t (by (eqb p.state.fields.left 0))
   where
     by : (u : Bool)
-        → by_step after p (if u then stepped (Ended p.state.fields.row p.words) b else stepped (Refused (refusal p.state.fields.row (fault 1))) b)
-        ≡ (if u then Frame.stopped none p else Frame.stopped (some (refusal p.state.fields.row (fault 1))) p)
+        → by_step after p (when u then stepped (Ended p.state.fields.row p.words) b else stepped (Refused (refusal p.state.fields.row (fault 1))) b)
+        ≡ (when u then Frame.stopped none p else Frame.stopped (some (refusal p.state.fields.row (fault 1))) p)
     by true = refl
     by false = refl
 

@@ -3,7 +3,7 @@
 use Rattle.std.specs.Prelude.{ℕ, zero, suc, ◌/◌, List, [], ◌∷◌, ◌++◌, ℤ, pos, length, eqb, ltb}
 use Rattle.std.proofs.Math.Option.{Option, none, some}
 use Rattle.std.specs.Int.Signed.{lt_z}
-use Rattle.memory.specs.Word.{if◌then◌else◌}
+use Rattle.memory.specs.Word.{when◌then◌else◌}
 use Rattle.memory.specs.Reading.{Reading, ◌>>=◌, asked}
 use Rattle.settings.specs.declared.PointerWords.{PointerWords}
 use Rattle.settings.specs.declared.Settings.{Settings}
@@ -23,7 +23,7 @@ use Rattle.beside.specs.Beside.{BesideCalled, with_one_line, with_top, beside_ca
 -- the addresses that are in memory
 unfoldable pub in_memory : List ℕ → List ℕ → List ℕ
 in_memory m [] = []
-in_memory m (a ∷ l) = if ltb (a / 2) (length m) then a ∷ in_memory m l else in_memory m l
+in_memory m (a ∷ l) = when ltb (a / 2) (length m) then a ∷ in_memory m l else in_memory m l
 
 -- the addresses of the words that a reading reads, in order: those that it asks for, but for the missing word of a refusal 7
 abbrev pub words_read : {A : Type 0} → List ℕ → Reading A → List ℕ
@@ -71,7 +71,7 @@ lists_after rest (Refused r) = []
 unfoldable pub lists_within : ℕ → Settings → Finds → Progress → List (List ℕ)
 lists_within zero σ ms p = []
 lists_within (suc n) σ ms p =
-    if eqb p.state.fields.left 0
+    when eqb p.state.fields.left 0
     then []
     else words_read (ms 0) (row σ p.state) ∷ lists_after (lists_within n σ (later ms)) (step σ (ms 0) p blank).answer
 
@@ -112,8 +112,8 @@ beside_after latch σ m c f = beside_call σ m c.shift c.soft latch (last_of c.o
 unfoldable pub beside_read : Settings → List ℕ → ℤ → PointerWords → ℕ → State → List ℕ
 beside_read σ m shift soft latch last =
     let down : Settings = with_top σ soft in
-    if lt_z (pos 0) shift then words_read m (row σ (state_of last.latch (with_one_line last.fields)))
-    else if lt_z shift (pos 0) then words_read m (start_from latch down >>= row down)
+    when lt_z (pos 0) shift then words_read m (row σ (state_of last.latch (with_one_line last.fields)))
+    else when lt_z shift (pos 0) then words_read m (start_from latch down >>= row down)
     else []
 
 abbrev pub beside_list : ℕ → Settings → List ℕ → Cut → Frame → List ℕ

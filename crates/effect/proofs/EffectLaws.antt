@@ -3,7 +3,7 @@ use mathlib.Core.Path.{◌≡◌, refl, ap, ap₂, sym, ◌∙◌}
 use mathlib.Core.Bool.{Bool, true, false}
 use mathlib.Core.List.{List}
 use Prim.Native.Nat.{ℕ}
-use Rattle.memory.specs.Word.{if◌then◌else◌}
+use Rattle.memory.specs.Word.{when◌then◌else◌}
 use Rattle.memory.specs.declared.Fault.{Fault}
 use Rattle.memory.specs.Reading.{Reading, done, ◌>>=◌, Outcome, given, refused, run_from, run}
 use Rattle.memory.proofs.Laws.{bind-given, bind-refused, run-done}
@@ -103,6 +103,6 @@ module _ (σ : Settings) (m : List ℕ) (s : State) {n : ℕ} {p : Plan} (e : gi
   cells-row (Cells.Accepted l b i) cs h =
       let g = finish-given _ h in
       rw (← planned-drawn σ m s e g.is) (
-        ap₂ (λ (b : Bool) (w : ℕ). if b then Set w else Keep) (ap (λ (f : Finished). f.latched) g.same) (ap (λ (f : Finished). f.latch) g.same),
+        ap₂ (λ (b : Bool) (w : ℕ). when b then Set w else Keep) (ap (λ (f : Finished). f.latched) g.same) (ap (λ (f : Finished). f.latch) g.same),
         λ x. refl,
       )

@@ -1,6 +1,6 @@
 -- What the functions of this crate give, as what the rules give: no rules of their own.
 use Rattle.std.specs.Prelude.{List, ℕ}
-use Rattle.memory.specs.Word.{if◌then◌else◌}
+use Rattle.memory.specs.Word.{when◌then◌else◌}
 use Rattle.memory.specs.Reading.{refusal}
 use Rattle.memory.specs.declared.Fault.{Fault}
 use Rattle.settings.specs.declared.Settings.{Settings}
@@ -26,7 +26,7 @@ same_parts part next = record { effect = record { clear = part; set = part }; ne
 -- the part and the next fields that the cells of a planned row tell, and the answer
 abbrev pub part_drawn : Fields → CellsDrawn → Part
 part_drawn f (Cells.Refused x) = Refuse (refusal f.row x)
-part_drawn f (Cells.Accepted latch latched n) = if latched then Set latch else Keep
+part_drawn f (Cells.Accepted latch latched n) = when latched then Set latch else Keep
 
 abbrev pub next_drawn : Fields → CellsDrawn → NextFields → NextFields
 next_drawn reached (Cells.Accepted latch latched n) otherwise = Reached reached

@@ -1,7 +1,7 @@
 -- Demand 3, "A row can be drawn alone": the statement. Its words are the mission's and document 01's: "Demand 3 is a single claim
 -- about a list of row calls, not one for each call."
 use Rattle.std.specs.Prelude.{ℕ, ◌≡◌, Bool, List, [], ◌∷◌, length, eqb}
-use Rattle.memory.specs.Word.{if◌then◌else◌}
+use Rattle.memory.specs.Word.{when◌then◌else◌}
 use Rattle.settings.specs.declared.Settings.{Settings}
 use Rattle.state.specs.declared.Fields.{Fields}
 use Rattle.state.specs.declared.State.{State}
@@ -58,7 +58,7 @@ module _ (σ : Settings) (m : List ℕ) where
   in_turn s (c ∷ cs) =
       let out : Called = row_call σ m s c.buffer in
       let rest : List Called = in_turn (state_after s out.answer) cs in
-      if is_row c then out ∷ rest else rest
+      when is_row c then out ∷ rest else rest
 
   -- "If they refuse, the call gives this same first refusal." "The row drawn alone is a row call with 132 cells on the fields then
   -- reached and the latch that the joined effects make of the first one."
@@ -74,7 +74,7 @@ module _ (σ : Settings) (m : List ℕ) where
   drawn_alone first f above [] = []
   drawn_alone first f above (c ∷ cs) =
       let x : EffectAnswer = effect_on σ m (state_of c.effect_latch f) in
-      if is_row c
+      when is_row c
       then row_alone f c (apply above first) ∷ drawn_alone first (fields_after f x.next) (join above x.effect) cs
       else drawn_alone first f above cs
 

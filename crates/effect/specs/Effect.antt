@@ -1,6 +1,6 @@
 -- Document 01: the effect of a row, and the effect call.
 use Rattle.std.specs.Prelude.{ℕ, Bool, true, false, List}
-use Rattle.memory.specs.Word.{if◌then◌else◌}
+use Rattle.memory.specs.Word.{when◌then◌else◌}
 use Rattle.memory.specs.Reading.{Outcome, given, refused, refusal, run}
 use Rattle.settings.specs.declared.Settings.{Settings}
 use Rattle.state.specs.declared.Fields.{Fields}
@@ -15,7 +15,7 @@ use Rattle.effect.specs.declared.EffectAnswer.{EffectAnswer}
 -- "A part is the refusal that a row gives from such a latch; without one, the last word that became the latch; without one, keep."
 abbrev pub part_of : Fields → Outcome Row → Part
 part_of f (refused x) = Refuse (refusal f.row x)
-part_of f (given n r) = if r.drawing.pen.latched then Set r.drawing.pen.latch else Keep
+part_of f (given n r) = when r.drawing.pen.latched then Set r.drawing.pen.latch else Keep
 
 -- "unless both parts refuse, comes with the next state's other fields": those of the first outcome that is no refusal
 abbrev pub next_of : Outcome Row → NextFields → NextFields

@@ -1,6 +1,6 @@
 -- An effect as numbers at their places, and from them.
 use Rattle.std.specs.Prelude.{ℕ, Bool, ◌&&◌, ◌||◌, List, [], ◌∷◌, eqb, leb}
-use Rattle.memory.specs.Word.{if◌then◌else◌, at}
+use Rattle.memory.specs.Word.{when◌then◌else◌, at}
 use Rattle.joining.specs.declared.Part.{Part}
 use Rattle.joining.specs.declared.Part.TheVariants.{Keep, Set, Refuse}
 use Rattle.joining.specs.declared.Effect.{Effect}
@@ -18,8 +18,8 @@ effect_limits = 17 ∷ any ∷ any ∷ any ∷ 1 ∷ 65535 ∷ 17 ∷ any ∷ an
 -- a part: a refusal where its number is not 0, else a set or a keep
 abbrev pub part_at : ℕ → ℕ → ℕ → ℕ → ℕ → ℕ → Part
 part_at number row address from sets word =
-    if eqb number 0
-    then (if yes sets then Set word else Keep)
+    when eqb number 0
+    then (when yes sets then Set word else Keep)
     else Refuse (record { number = number; row = row; address = address; from = from })
 
 unfoldable pub effect_at : List ℕ → Effect
@@ -35,19 +35,19 @@ of_effect n = (leb 2 n && leb n 4) || (leb 7 n && leb n 13) || eqb n 17
 -- numbers that the effect call writes for a part: what the part does not use is 0; "other refusals hold 0" where the pointer of a 7 begins
 abbrev pub part_written : ℕ → ℕ → ℕ → ℕ → ℕ → ℕ → Bool
 part_written number row address from sets word =
-    if eqb number 0
+    when eqb number 0
     then eqb row 0 && eqb address 0 && eqb from 0 && (yes sets || eqb word 0)
     else of_effect number && (eqb number 7 || eqb from 0) && eqb sets 0 && eqb word 0
 
 unfoldable pub effect_written : List ℕ → EffectIn
 effect_written xs =
-    if part_written (at xs 0) (at xs 1) (at xs 2) (at xs 3) (at xs 4) (at xs 5)
+    when part_written (at xs 0) (at xs 1) (at xs 2) (at xs 3) (at xs 4) (at xs 5)
     && part_written (at xs 6) (at xs 7) (at xs 8) (at xs 9) (at xs 10) (at xs 11)
     then Fit (effect_at xs)
     else Unfit
 
 unfoldable pub effect_in : List ℕ → EffectIn
-effect_in xs = if within effect_limits xs then effect_written xs else Unfit
+effect_in xs = when within effect_limits xs then effect_written xs else Unfit
 
 -- a part's numbers
 abbrev pub part_numbers : Part → PartNumbers

@@ -8,7 +8,7 @@ use native.Mathlib.Omega.{arith}
 use native.Mathlib.Nat.{add-zero}
 use lib.ListN.{length, take, drop}
 use lib.Dec.{ltb}
-use Rattle.memory.specs.Word.{if◌then◌else◌}
+use Rattle.memory.specs.Word.{when◌then◌else◌}
 use Rattle.panel.specs.declared.Place.{Place}
 use Rattle.panel.specs.declared.Placed.{Placed}
 use Rattle.panel.specs.declared.Placed.TheVariants.{Nowhere, At}
@@ -38,7 +38,7 @@ module _ (r : PictureRow) (rs : List PictureRow) (z : ℕ) where
   h = r.height
 
   by-test : (t : Bool) (i : ℕ) → moved (suc i) (place (heights_of rs) (z - h)) ≡ placed_of (locate (suc i) rs (z - h))
-      → moved i (if t then At (place_at 0 z (h - z)) else later (place (heights_of rs) (z - h))) ≡ placed_of (if t then located i z r else locate (suc i) rs (z - h))
+      → moved i (when t then At (place_at 0 z (h - z)) else later (place (heights_of rs) (z - h))) ≡ placed_of (when t then located i z r else locate (suc i) rs (z - h))
   by-test true i e = ap (λ (n : ℕ). At (place_at n z (h - z))) (add-zero i)
   by-test false i e = moved_later i (place (heights_of rs) (z - h)) ∙ e
 
@@ -66,8 +66,8 @@ row-later r rs (At p) = refl
 
 module _ (r : PictureRow) (rs : List PictureRow) (z i : ℕ) where
   by-test-row : (t : Bool) → row_in rs (place (heights_of rs) (z - r.height)) ≡ row_of (locate (suc i) rs (z - r.height))
-      → row_in (r ∷ rs) (if t then At (place_at 0 z (r.height - z)) else later (place (heights_of rs) (z - r.height)))
-      ≡ row_of (if t then located i z r else locate (suc i) rs (z - r.height))
+      → row_in (r ∷ rs) (when t then At (place_at 0 z (r.height - z)) else later (place (heights_of rs) (z - r.height)))
+      ≡ row_of (when t then located i z r else locate (suc i) rs (z - r.height))
   by-test-row true e = refl
   by-test-row false e = row-later r rs (place (heights_of rs) (z - r.height)) ∙ e
 
@@ -87,7 +87,7 @@ and_then (located j l r) next = located j l r
 and_then (beyond k) next = next k
 
 by-test-then : (t : Bool) (j l : ℕ) (r : PictureRow) (x y : Located) (next : ℕ → Located) → y ≡ and_then x next
-    → (if t then located j l r else y) ≡ and_then (if t then located j l r else x) next
+    → (when t then located j l r else y) ≡ and_then (when t then located j l r else x) next
 by-test-then true j l r x y next e = refl
 by-test-then false j l r x y next e = e
 
@@ -104,7 +104,7 @@ counted n (located j l r) = located (n + j) l r
 counted n (beyond k) = beyond k
 
 by-test-counted : (t : Bool) (n i z : ℕ) (r : PictureRow) (x y : Located) → x ≡ counted n y
-    → (if t then located (n + i) z r else x) ≡ counted n (if t then located i z r else y)
+    → (when t then located (n + i) z r else x) ≡ counted n (when t then located i z r else y)
 by-test-counted true n i z r x y e = refl
 by-test-counted false n i z r x y e = e
 
@@ -120,7 +120,7 @@ abbrev Below : ℕ → Located → Type 0
 Below n (located j l r) = j < n
 Below n (beyond k) = 0 ≤ n
 
-by-test-below : (t : Bool) (n i z : ℕ) (r : PictureRow) (x : Located) → i < n → Below n x → Below n (if t then located i z r else x)
+by-test-below : (t : Bool) (n i z : ℕ) (r : PictureRow) (x : Located) → i < n → Below n x → Below n (when t then located i z r else x)
 by-test-below true n i z r x h b = h
 by-test-below false n i z r x h b = b
 

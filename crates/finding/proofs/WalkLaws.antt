@@ -9,7 +9,7 @@ use native.Mathlib.Numerals.{add-one}
 use lib.ListN.{length}
 use lib.Dec.{ltb, eqb}
 use borrow.Author.Tests.{lt-ltb, le-ltb}
-use Rattle.memory.specs.Word.{if◌then◌else◌}
+use Rattle.memory.specs.Word.{when◌then◌else◌}
 use Rattle.memory.specs.declared.Refusal.{Refusal}
 use Rattle.memory.proofs.ReadBounds.{Words}
 use Rattle.settings.specs.declared.Settings.{Settings}
@@ -44,8 +44,8 @@ module _ (σ : Settings) (m : List ℕ) where
 
   by_lines : (f g : Progress → Frame) (s : State) (v w : ℕ) → ((t : State) (a b : ℕ) → uncounted (f (progress t a)) ≡ uncounted (g (progress t b)))
       → (t : Bool) (c : Called)
-      → uncounted (by_step f (progress s v) (if t then stepped (Step.Ended s.fields.row v) blank else stepped (row_step (progress s v) c.answer) c.buffer))
-      ≡ uncounted (by_step g (progress s w) (if t then stepped (Step.Ended s.fields.row w) blank else stepped (row_step (progress s w) c.answer) c.buffer))
+      → uncounted (by_step f (progress s v) (when t then stepped (Step.Ended s.fields.row v) blank else stepped (row_step (progress s v) c.answer) c.buffer))
+      ≡ uncounted (by_step g (progress s w) (when t then stepped (Step.Ended s.fields.row w) blank else stepped (row_step (progress s w) c.answer) c.buffer))
   by_lines f g s v w same true c = refl
   by_lines f g s v w same false c = by-row-answer f g s v w same c.answer c.buffer
 

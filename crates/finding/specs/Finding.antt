@@ -1,7 +1,7 @@
 -- Which row has a line, found by going through the rows: what the functions of this crate give. No rules of their own.
 use Rattle.std.specs.Prelude.{ℕ, suc, ◌-◌, ◌≡◌, List, [], ◌∷◌, ltb}
 use Rattle.std.proofs.Math.Option.{Option, none, some}
-use Rattle.memory.specs.Word.{if◌then◌else◌}
+use Rattle.memory.specs.Word.{when◌then◌else◌}
 use Rattle.memory.specs.declared.Refusal.{Refusal}
 use Rattle.settings.specs.declared.Settings.{Settings}
 use Rattle.state.specs.declared.State.{State}
@@ -20,7 +20,7 @@ pub data Located : Type 0 where
 
 unfoldable pub locate : ℕ → List PictureRow → ℕ → Located
 locate i [] z = beyond z
-locate i (r ∷ rs) z = if ltb z r.height then located i z r else locate (suc i) rs (z - r.height)
+locate i (r ∷ rs) z = when ltb z r.height then located i z r else locate (suc i) rs (z - r.height)
 
 -- the frame from a state on, and its rows; what was read before does not matter
 abbrev pub from : State → Progress

@@ -6,7 +6,7 @@ use Prim.Native.Nat.{ℕ, ◌+◌, ◌-◌, ◌*◌, ◌%◌, ◌<◌}
 use native.Mathlib.Omega.{arith}
 use lib.Dec.{ltb, leb}
 use borrow.Author.Tests.{lt-ltb, le-ltb}
-use Rattle.memory.specs.Word.{if◌then◌else◌, bit, at}
+use Rattle.memory.specs.Word.{when◌then◌else◌, bit, at}
 use Rattle.memory.specs.declared.Fault.{Fault}
 use Rattle.memory.specs.declared.Pointer.{Pointer}
 use Rattle.memory.specs.Reading.{Reading, done, read_as, one_pointer, nobody, check, check_of, ◌>>=◌, ◌>>◌, given, refused, run}
@@ -89,7 +89,7 @@ module _ (held : ℕ) (m : List ℕ) where
     block_null e = rw e
 
     rest : List ℕ → Reading RowBlock
-    rest head = rest_of_block l p head (if redefines && bit 15 (at head 2) then 2 else 0)
+    rest head = rest_of_block l p head (when redefines && bit 15 (at head 2) then 2 else 0)
 
     pub block-faulted : {x : Fault} → null p ≡ false → trail held m marks (read_as one_pointer (words l 3 p)) ≡ faulted x → trail held m marks (block_at l redefines p) ≡ faulted x
     unfolding block_at rest
@@ -97,7 +97,7 @@ module _ (held : ℕ) (m : List ℕ) where
 
     pub block-passed : {marks₁ : List ℕ} → null p ≡ false → trail held m marks (read_as one_pointer (words l 3 p)) ≡ passed marks₁
         → trail held m marks (block_at l redefines p)
-        ≡ trail held m marks₁ (rest_of_block l p (words_in l m 3 p.address) (if redefines && bit 15 (word_of m (ahead l 2 p.address)) then 2 else 0))
+        ≡ trail held m marks₁ (rest_of_block l p (words_in l m 3 p.address) (when redefines && bit 15 (word_of m (ahead l 2 p.address)) then 2 else 0))
     unfolding block_at rest words_in ahead
     block-passed e f = rw e (trail-words held m marks l 3 p one_pointer rest ∙ rw f)
 

@@ -1,6 +1,6 @@
 // The words of blocks and windows, marked in their roles.
 ghost use Rattle.std.specs.Prelude.{◌≡◌, true, ◌&&◌, List, ℕ, ◌%◌, ◌≤◌, length, leb};
-ghost use Rattle.memory.specs.Word.{if◌then◌else◌, bit, at};
+ghost use Rattle.memory.specs.Word.{when◌then◌else◌, bit, at};
 ghost use Rattle.blocks.specs.declared.RowFormat.{RowFormat};
 ghost use Rattle.blocks.specs.RowBlock.{rest_of_block, block_at, redefined};
 ghost use Rattle.windows.specs.Window.{window_at, due_window};
@@ -208,7 +208,7 @@ fn mark_block(mem: &[u16], marks: &mut [u8], linear: bool, redefines: bool, p: P
 
 // The words of a redefinition pointer that follow a block's third word: 2 or 0.
 fn pointed(redefines: bool, w: u16) -> u32
-    ensures { (result ≡ (if redefines && bit 15 w then 2 else 0)) × (result ≤ 2) }
+    ensures { (result ≡ (when redefines && bit 15 w then 2 else 0)) × (result ≤ 2) }
 {
     if redefines & memory::bit_15(w) { 2 } else { 0 }
 }

@@ -6,7 +6,7 @@ use Prim.Native.Nat.{ℕ, ◌+◌, ◌<◌, ◌≤◌}
 use lib.ListN.{length}
 use lib.Dec.{eqb}
 use borrow.Author.Tests.{ne_eqb, eqb-true, eqb-false}
-use Rattle.memory.specs.Word.{if◌then◌else◌}
+use Rattle.memory.specs.Word.{when◌then◌else◌}
 use Rattle.memory.specs.Reading.{Outcome, given, refused, run}
 use Rattle.memory.proofs.ReadBounds.{Words, if-cases}
 use Rattle.settings.specs.declared.Settings.{Settings}
@@ -82,7 +82,7 @@ module _ (σ : Settings) (m : List ℕ) (rest : Progress → Frame) (p : Progres
   sized b l = rw l
 
   by_lines : (t : Bool) (rows words : ℕ) (a b : List ℕ) (x y : Stepped) → by_step rest p x ≡ by_step rest p y
-      → by_step rest p (if t then stepped (Ended rows words) a else x) ≡ by_step rest p (if t then stepped (Ended rows words) b else y)
+      → by_step rest p (when t then stepped (Ended rows words) a else x) ≡ by_step rest p (when t then stepped (Ended rows words) b else y)
   by_lines true rows words a b x y h = refl
   by_lines false rows words a b x y h = h
 

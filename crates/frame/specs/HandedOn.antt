@@ -1,7 +1,7 @@
 -- Frames in a row: what `handed_on` gives, and what refused frames among them leave. No rules of their own.
 use Rattle.std.specs.Prelude.{ℕ, ◌<◌, ◌≡◌, List, [], ◌∷◌, get_or, eqb}
 use Rattle.std.proofs.Math.Option.{Option, none, some}
-use Rattle.memory.specs.Word.{if◌then◌else◌}
+use Rattle.memory.specs.Word.{when◌then◌else◌}
 use Rattle.settings.specs.declared.Settings.{Settings}
 use Rattle.state.specs.declared.State.{State}
 use Rattle.memory.specs.declared.Refusal.{Refusal}
@@ -9,7 +9,7 @@ use Rattle.frame.specs.Frame.{Frame, frame, handed_on, Screen}
 
 -- the latch that is handed on, from the state that a frame ended with: one that ran to its end has no line left, a refused one has
 abbrev pub latch_after : ℕ → State → ℕ
-latch_after latch s = if eqb s.fields.left 0 then s.latch else latch
+latch_after latch s = when eqb s.fields.left 0 then s.latch else latch
 
 -- it is the frame's, for every frame that was started with the latch and ended with the state
 abbrev pub HandsOn : ℕ → State → ℕ → Type 0

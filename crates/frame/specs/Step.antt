@@ -1,6 +1,6 @@
 -- A frame in progress: how it begins, and one step of it.
 use Rattle.std.specs.Prelude.{ℕ, ◌+◌, ◌*◌, ◌<◌, min, List, eqb}
-use Rattle.memory.specs.Word.{if◌then◌else◌}
+use Rattle.memory.specs.Word.{when◌then◌else◌}
 use Rattle.memory.specs.Reading.{run}
 use Rattle.settings.specs.declared.Settings.{Settings}
 use Rattle.row.specs.declared.DrawnRow.{DrawnRow}
@@ -46,7 +46,7 @@ stepped answer buffer = record { answer = answer; buffer = buffer }
 unfoldable pub step : Settings → List ℕ → Progress → List ℕ → Stepped
 step σ m p buffer =
     let c : Called = row_call σ m p.state buffer in
-    if eqb p.state.fields.left 0
+    when eqb p.state.fields.left 0
     then stepped (Ended p.state.fields.row p.words) buffer
     else stepped (row_step p c.answer) c.buffer
 

@@ -1,7 +1,7 @@
 -- The lines of the glide program's output, as bytes: a frame's line, and the lines of a stretch, a run of lines on which one row glides,
 -- or none, and one row stands still. Numbers and cells are spelled as the draw program spells them. The lines are ours.
 use Rattle.std.specs.Prelude.{ℕ, ◌/◌, ◌%◌, ◌^◌, Bool, ◌&&◌, List, [], ◌∷◌, ◌++◌, map, ℤ, nat_abs, leb, eqb}
-use Rattle.memory.specs.Word.{if◌then◌else◌, bit}
+use Rattle.memory.specs.Word.{when◌then◌else◌, bit}
 use Rattle.settings.specs.declared.PointerWords.{PointerWords}
 use Rattle.scroll.specs.declared.Scroll.{Scroll}
 use Rattle.panel.specs.declared.Columns.{Columns}
@@ -15,11 +15,11 @@ use Rattle.glide_lines.specs.declared.Gliding.TheVariants.{Nothing, Row, Below, 
 
 -- a shift, "positive up and negative down" (02): -3
 abbrev pub sign : ℤ → List ℕ
-sign z = if is_down z then text "-" else []
+sign z = when is_down z then text "-" else []
 
 -- "direction (bit 13)" (02): 1 up
 abbrev pub way_text : ℕ → List ℕ
-way_text direction = if eqb direction 1 then text " up" else text " down"
+way_text direction = when eqb direction 1 then text " up" else text " down"
 
 -- "frame 0 shift 1 phase 0 up top 0000 0010 latch 0000": the hard top's words, and the start latch
 unfoldable pub frame_line : ℕ → Scroll → (top : PointerWords) → (latch : ℕ) → List ℕ
@@ -41,7 +41,7 @@ gliding_text (Above r) = text "above " ++ part_text r
 
 -- " window 2 to 3", where a window stands on the row
 unfoldable pub window_text : Columns → List ℕ
-window_text c = if leb c.first c.last then text " window " ++ decimal c.first ++ text " to " ++ decimal c.last else []
+window_text c = when leb c.first c.last then text " window " ++ decimal c.first ++ text " to " ++ decimal c.last else []
 
 -- "lines 2 to 2 row 1 from 1 of 2 attr 000 still 1 from 0 of 2 attr 000 window 2 to 3"
 unfoldable pub stretch_line : Stretch → List ℕ
@@ -54,7 +54,7 @@ abbrev pub is_character : ℕ → Bool
 is_character code = leb 0x20 code && leb code 0x7e
 
 unfoldable pub character : ℕ → ℕ
-character cell = if bit 23 cell then 0x20 else if is_character (cell % 128) then cell % 128 else 0x3f
+character cell = when bit 23 cell then 0x20 else when is_character (cell % 128) then cell % 128 else 0x3f
 
 -- "|CD34|"
 unfoldable pub character_line : List ℕ → List ℕ

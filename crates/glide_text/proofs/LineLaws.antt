@@ -1,7 +1,7 @@
 -- What a line of the screen shows, as going through the rows finds it: the row that stands still, and the row that glides.
 use Rattle.std.proofs.Common.{◌≡◌, ℕ, ◌+◌, ◌-◌, ◌<◌, ◌≤◌, Bool, true, false, ltb, List, [], ◌∷◌, ◌++◌, length, drop, nat_abs, sym, refl, ap, ◌∙◌, arith, le-ltb, lt-ltb}
 use mathlib.Core.Option.{Option, none, some}
-use Rattle.memory.specs.Word.{if◌then◌else◌}
+use Rattle.memory.specs.Word.{when◌then◌else◌}
 use Rattle.panel.specs.declared.Placed.{Placed}
 use Rattle.panel.specs.declared.Placed.TheVariants.{Nowhere, At}
 use Rattle.panel.specs.Line.{place_at, row_at, place, is_down, background, still}

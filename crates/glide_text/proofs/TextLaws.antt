@@ -1,7 +1,7 @@
 -- What follows a frame, and how a frame ends, by the answers of the calls.
 use Rattle.std.proofs.Common.{◌≡◌, ℕ, zero, suc, ◌-◌, ◌<◌, Bool, true, false, ◌&&◌, ◌||◌, eqb, List, [], ◌∷◌, sym, refl, ap, ◌∙◌, arith, ne_eqb}
 use mathlib.Core.Option.{Option, none, some}
-use Rattle.memory.specs.Word.{if◌then◌else◌}
+use Rattle.memory.specs.Word.{when◌then◌else◌}
 use Rattle.memory.specs.declared.Refusal.{Refusal}
 use Rattle.settings.specs.declared.Settings.{Settings}
 use Rattle.state.specs.declared.State.{State}
@@ -17,11 +17,11 @@ use Rattle.glide_text.specs.declared.Glide.{Glide}
 use Rattle.glide_text.specs.GlideText.{after_frame, by_refusal, frame_end, draw_text, at_rest, ending}
 
 -- frames that end, and frames that go on
-if-true : (t : Bool) (x y : List ℕ) → t ≡ true → x ≡ (if t then x else y)
+if-true : (t : Bool) (x y : List ℕ) → t ≡ true → x ≡ (when t then x else y)
 if-true true x y h = refl
 if-true false x y h = let z : ◌≡◌ {A = ℕ} 0 1 = cc in absurd (omega arith)
 
-if-false : (t : Bool) (x y : List ℕ) → t ≡ false → y ≡ (if t then x else y)
+if-false : (t : Bool) (x y : List ℕ) → t ≡ false → y ≡ (when t then x else y)
 if-false true x y h = let z : ◌≡◌ {A = ℕ} 0 1 = cc in absurd (omega arith)
 if-false false x y h = refl
 

@@ -1,7 +1,7 @@
 -- The text of a shifted frame: its line, and for each stretch of lines its line, its shown columns as characters and their cells.
 use Rattle.std.specs.Prelude.{ℕ, zero, suc, ◌+◌, ◌-◌, min, List, [], ◌++◌, length, nat_lt}
 use Rattle.std.proofs.Math.Option.{Option, none, some}
-use Rattle.memory.specs.Word.{if◌then◌else◌}
+use Rattle.memory.specs.Word.{when◌then◌else◌}
 use Rattle.settings.specs.declared.Settings.{Settings}
 use Rattle.settings.specs.Timing.{lines_for_rows}
 use Rattle.panel.specs.declared.Place.{Place}
@@ -26,7 +26,7 @@ part_of p r = record { index = p.index; line = p.line; height = r.height; attrib
 -- a row of the frame, which has so many, or one below, counted from 0
 abbrev pub row_part : (rows : ℕ) → Place → PictureRow → Gliding
 row_part rows p r =
-    if nat_lt p.index rows then Row (part_of p r) else Below (part_of (place_at (p.index - rows) p.line p.left) r)
+    when nat_lt p.index rows then Row (part_of p r) else Below (part_of (place_at (p.index - rows) p.line p.left) r)
 
 abbrev pub gliding_of : (rows : ℕ) → Background → Option PictureRow → Gliding
 gliding_of rows b none = Nothing
@@ -51,7 +51,7 @@ from_line next σ p y l Nowhere r = []
 unfoldable pub stretches : ℕ → Settings → Picture → ℕ → List ℕ
 stretches zero σ p y = []
 stretches (suc n) σ p y =
-    if nat_lt y (lines_for_rows σ)
+    when nat_lt y (lines_for_rows σ)
     then from_line (stretches n σ p) σ p y (line_on p y) (line_on p y).still (still_row p (line_on p y).still)
     else []
 

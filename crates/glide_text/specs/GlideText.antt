@@ -2,7 +2,7 @@
 -- byte of a record does is the script's; after a draw the script goes on.
 use Rattle.std.specs.Prelude.{ℕ, zero, suc, Bool, ◌&&◌, List, [], ◌∷◌, ◌++◌, replicate, pos, ◌==◌, nat_lt, unsigned_abs}
 use Rattle.std.proofs.Math.Option.{Option, none, some}
-use Rattle.memory.specs.Word.{if◌then◌else◌}
+use Rattle.memory.specs.Word.{when◌then◌else◌}
 use Rattle.memory.specs.declared.Refusal.{Refusal}
 use Rattle.settings.specs.declared.PointerWords.{PointerWords}
 use Rattle.settings.specs.declared.Settings.{Settings}
@@ -75,7 +75,7 @@ at_rest s = unsigned_abs s.shift == 0 && s.phase == 0
 
 unfoldable pub ending : ℕ → Glide → List ℕ → List ℕ
 ending zero g m = end_frames g.frames
-ending (suc n) g m = if at_rest g.scroll then end_frames g.frames else draw_text (λ h. ending n h m) g m
+ending (suc n) g m = when at_rest g.scroll then end_frames g.frames else draw_text (λ h. ending n h m) g m
 
 -- ---- records ----
 -- the soft top, where a record of register 04h or 05h has just ended
@@ -84,8 +84,8 @@ register_ended s register = s.kind == 1 && s.left == 0 && address s.body == regi
 
 unfoldable pub soft_after : Script → PointerWords → PointerWords
 soft_after s p = record {
-  first = if register_ended s 0x04 then value s.body else p.first;
-  second = if register_ended s 0x05 then value s.body else p.second;
+  first = when register_ended s 0x04 then value s.body else p.first;
+  second = when register_ended s 0x05 then value s.body else p.second;
 }
 
 unfoldable pub with_script : Glide → Script → Glide
@@ -115,7 +115,7 @@ abbrev pub by_step : (Glide → List ℕ → List ℕ) → Glide → Stepped →
 by_step next g t = by_outcome next g t.memory t.outcome
 
 abbrev pub input_end : Glide → List ℕ → List ℕ
-input_end g m = if just_drawn g then ending 256 g m else script_line (at_end g.script)
+input_end g m = when just_drawn g then ending 256 g m else script_line (at_end g.script)
 
 -- the text of the bytes that follow
 unfoldable pub on_bytes : List ℕ → Glide → List ℕ → List ℕ

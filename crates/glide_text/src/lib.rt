@@ -1,7 +1,7 @@
 #![tactic(auto)]
 // The text that the glide program prints: the frames of a script whose draws are frames one after the other.
 ghost use Rattle.std.specs.Prelude.{◌≡◌};
-ghost use Rattle.memory.specs.Word.{if◌then◌else◌};
+ghost use Rattle.memory.specs.Word.{when◌then◌else◌};
 ghost use Rattle.script.specs.Feeding.{counted};
 ghost use Rattle.glide_text.specs.GlideText.{first_glide, shifted, after_frame, at_rest, soft_after, with_script, past_draw};
 ghost use Rattle.glide_text.specs.ToCome.{Resumes, Reads, Stops, Finishes};
@@ -200,7 +200,7 @@ fn soft_after(s: Script, before: PointerWords) -> PointerWords
 }
 
 fn chosen(test: bool, a: u16, b: u16) -> u16
-    ensures { result ≡ (if test then a else b) }
+    ensures { result ≡ (when test then a else b) }
 {
     if test { a } else { b }
 }

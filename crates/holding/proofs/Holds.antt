@@ -6,7 +6,7 @@ use mathlib.Core.List.{List, [], ◌∷◌}
 use Prim.Native.Nat.{ℕ}
 use Rattle.memory.specs.declared.Fault.{Fault}
 use Rattle.memory.specs.declared.Pointer.{Pointer}
-use Rattle.memory.specs.Word.{if◌then◌else◌}
+use Rattle.memory.specs.Word.{when◌then◌else◌}
 use Rattle.memory.specs.Reading.{Role, Ask, Reading, done, refuse, ask, blaming, ◌>>=◌, in_role, read_as, check_of, each}
 use Rattle.memory.proofs.ReadBounds.{if-cases}
 
@@ -49,7 +49,7 @@ module _ {Q : Ask → Type 0} {K : Ask → ℕ → Type 0} {F : Fault → Type 0
   as-holds a b (r ∷ rs) (asks {q} x g) = asks (a q r x) λ w y. as-holds a b rs (g w (b q r w y))
 
   pub if-holds : {A : Type 0} {P : A → Type 0} (b : Bool) {p q : Reading A}
-      → (b ≡ true → Holds Q K F P p) → (b ≡ false → Holds Q K F P q) → Holds Q K F P (if b then p else q)
+      → (b ≡ true → Holds Q K F P p) → (b ≡ false → Holds Q K F P q) → Holds Q K F P (when b then p else q)
   if-holds {P} b h k = if-cases (Holds Q K F P) b h k
 
   -- one for each of a list, where something holds of the list's own

@@ -9,7 +9,7 @@ use lib.ListN.{length, get_or, set, drop}
 use lib.Seq.{get_or-set_same, get_or-set_other, drop-cons, drop-length}
 use lib.Dec.{eqb}
 use borrow.Author.Tests.{eq-eqb, ne_eqb, eqb-true, eqb-false}
-use Rattle.memory.specs.Word.{if◌then◌else◌, bit}
+use Rattle.memory.specs.Word.{when◌then◌else◌, bit}
 use Rattle.settings.specs.declared.Edition.TheVariants.{Am8052}
 use Rattle.settings.specs.declared.Interlace.{Interlace}
 use Rattle.settings.specs.declared.Interlace.TheVariants.{Progressive, RepeatField, Video}
@@ -128,13 +128,13 @@ unfolding registered_from registered
 fields rs e σ = ap (λ (xs : List ℕ). registered_from 0 xs σ) (all-spelled rs e)
 
 -- a register that is set
-pub at_set : (rs : List ℕ) (a v i : ℕ) → i < length rs → at (set rs a v) i ≡ (if eqb a i then v else at rs i)
+pub at_set : (rs : List ℕ) (a v i : ℕ) → i < length rs → at (set rs a v) i ≡ (when eqb a i then v else at rs i)
 at_set rs a v i h =
     either (eqb a i)
     (λ e. rw e (rw (eqb-true a i e) (get_or-set_same rs i v 0 h)))
     (λ e. rw e (get_or-set_other rs a i v 0 (λ z. eqb-false a i e (sym z))))
 
-choice : (f : ℕ → ℕ) (b : Bool) (x y : ℕ) → f (if b then x else y) ≡ (if b then f x else f y)
+choice : (f : ℕ → ℕ) (b : Bool) (x y : ℕ) → f (when b then x else y) ≡ (when b then f x else f y)
 choice f true x y = refl
 choice f false x y = refl
 
@@ -142,7 +142,7 @@ pub fields-set : (rs : List ℕ) → length rs ≡ 25 → (a v : ℕ) (σ : Sett
     → with_fields (at (set rs a v)) (registered a v σ) ≡ registered a v (with_fields (at rs) σ)
 unfolding registered
 fields-set rs e a v σ =
-    let is : (i : ℕ) → i < 25 → at (set rs a v) i ≡ (if eqb a i then v else at rs i) = λ i h. at_set rs a v i (omega arith) in
+    let is : (i : ℕ) → i < 25 → at (set rs a v) i ≡ (when eqb a i then v else at rs i) = λ i h. at_set rs a v i (omega arith) in
     rw (is 0x08 (omega arith), is 0x09 (omega arith), is 0x0a (omega arith), is 0x0b (omega arith), is 0x0c (omega arith))
     (rw (is 0x11 (omega arith), is 0x12 (omega arith), is 0x13 (omega arith), is 0x14 (omega arith))
     (rw (is 0x16 (omega arith), is 0x17 (omega arith), is 0x18 (omega arith))

@@ -1,6 +1,6 @@
 -- A script read byte by byte with its registers, as the code does. That this is the script by its records is `Reading.read-image`.
 use Rattle.std.specs.Prelude.{ℕ, ◌&&◌, List, [], ◌∷◌, set, replicate, eqb}
-use Rattle.memory.specs.Word.{if◌then◌else◌}
+use Rattle.memory.specs.Word.{when◌then◌else◌}
 use Rattle.script.specs.declared.Script.{Script}
 use Rattle.script.specs.declared.Step.{Step}
 use Rattle.script.specs.declared.Step.TheVariants.{More, Draw, Refused}
@@ -9,7 +9,7 @@ use Rattle.script.specs.Feeding.{Stepped, stepped, step_of, beginning}
 
 -- where a record of a register has just ended, its value is that register's; else all are as before
 abbrev pub registers_at : Script → List ℕ → List ℕ
-registers_at s rs = if eqb s.kind 1 && eqb s.left 0 then set rs (address s.body) (value s.body) else rs
+registers_at s rs = when eqb s.kind 1 && eqb s.left 0 then set rs (address s.body) (value s.body) else rs
 
 abbrev pub noted : Step → List ℕ → List ℕ
 noted (More s) rs = registers_at s rs

@@ -1,6 +1,6 @@
 -- Document 01, "The draw program": "1: register address, value (3)". The registers that a script sets, also those that its screen ignores.
 use Rattle.std.specs.Prelude.{ℕ, zero, suc, List, [], ◌∷◌, length, take, drop, set, replicate, eqb}
-use Rattle.memory.specs.Word.{if◌then◌else◌}
+use Rattle.memory.specs.Word.{when◌then◌else◌}
 use Rattle.script.specs.Records.{by_kind, body_length, address, value}
 use Rattle.script.specs.Script.{number}
 
@@ -14,7 +14,7 @@ unfoldable pub registers_by : ℕ → (registers bytes : List ℕ) → List ℕ
 registers_by zero rs bytes = rs
 registers_by (suc n) rs [] = rs
 registers_by (suc n) rs (kind ∷ bytes) =
-    if eqb kind 0 then rs
+    when eqb kind 0 then rs
     else registers_by n (registers_after kind (number (take (body_length kind) bytes)) rs) (drop (body_length kind) bytes)
 
 -- a "register above 18h" is refused, so there are 25. "Unset is 0."

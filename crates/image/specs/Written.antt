@@ -1,7 +1,7 @@
 -- The script of an image. Its records come in a fixed order: the switches, the registers, rising, the words of memory, rising, and the draw.
 -- "Unset is 0", so a register or a word that is 0 has no record.
 use Rattle.std.specs.Prelude.{ℕ, ◌+◌, ◌*◌, List, [], ◌∷◌, ◌++◌, eqb}
-use Rattle.memory.specs.Word.{if◌then◌else◌, high, low}
+use Rattle.memory.specs.Word.{when◌then◌else◌, high, low}
 use Rattle.image.specs.Image.{Image}
 
 -- 01: "3: switches (1)"
@@ -18,7 +18,7 @@ word_record i w = 2 ∷ 0 ∷ high (2 * i) ∷ low (2 * i) ∷ high w ∷ low w 
 
 -- the records of values from number i on
 abbrev pub value_text : (ℕ → ℕ → List ℕ) → (i value : ℕ) → List ℕ
-value_text record_of i v = if eqb v 0 then [] else record_of i v
+value_text record_of i v = when eqb v 0 then [] else record_of i v
 
 unfoldable pub values_text : (ℕ → ℕ → List ℕ) → ℕ → List ℕ → List ℕ
 values_text record_of i [] = []

@@ -4,7 +4,7 @@ use mathlib.Core.Bool.{Bool, true, false, ◌&&◌}
 use mathlib.Core.List.{List, []}
 use Prim.Native.Nat.{ℕ, ◌+◌, ◌*◌, ◌%◌}
 use lib.Dec.{eqb}
-use Rattle.memory.specs.Word.{if◌then◌else◌, bit}
+use Rattle.memory.specs.Word.{when◌then◌else◌, bit}
 use Rattle.memory.specs.declared.Pointer.{Pointer}
 use Rattle.memory.specs.Word as W
 use Rattle.memory.specs.Reading.{◌>>=◌, one_pointer}
@@ -28,7 +28,7 @@ module _ (linear : Bool) (a x y : ℕ) where
 
   head-alike : (w₁ w₂ v₁ v₂ : ℕ) (us vs : List ℕ) → FromThird w₁ w₂ v₁ v₂ us vs
       → Near (BlockAlike (pointer linear a w₁ w₂) (pointer linear a v₁ v₂))
-      (rest_of_block linear (at a x) us (if true && bit 15 (W.at us 2) then 2 else 0)) (rest_of_block linear (at a y) vs (if true && bit 15 (W.at vs 2) then 2 else 0))
+      (rest_of_block linear (at a x) us (when true && bit 15 (W.at us 2) then 2 else 0)) (rest_of_block linear (at a y) vs (when true && bit 15 (W.at vs 2) then 2 else 0))
   head-alike w₁ w₂ v₁ v₂ us vs (from_third rest) = rest-alike w₁ w₂ v₁ v₂ _ _ _ (from_third rest)
 
   pub block-opens : eqb a 0 ≡ false

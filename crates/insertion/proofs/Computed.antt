@@ -10,7 +10,7 @@ use mathlib.Core.Option.{Option, none, some}
 use lib.ListN.{length, replicate, take, drop, get_elem?}
 use lib.ListN as Words
 use lib.Dec.{eqb}
-use Rattle.memory.specs.Word.{if◌then◌else◌}
+use Rattle.memory.specs.Word.{when◌then◌else◌}
 use Rattle.memory.specs.Reading.{◌>>=◌, read_as, each, run_from, asked}
 use Rattle.memory.specs.Address.{pointer, next_word, ahead, words}
 use Rattle.settings.specs.declared.Edition.TheVariants.{Am8052}
@@ -163,7 +163,7 @@ below σ link m n = let place = place_of 0 σ link m in front (drop (suc place) 
 -- redefinition, 8 read for something else, 9 followed twice, 10 refused; of the new one 11 to 15
 failed : ℕ → List Bool → List ℕ
 failed k [] = []
-failed k (b ∷ bs) = if b then failed (suc k) bs else k ∷ failed (suc k) bs
+failed k (b ∷ bs) = when b then failed (suc k) bs else k ∷ failed (suc k) bs
 
 fails : Settings → ℕ → List ℕ → List ℕ → List ℕ
 fails σ link m n =

@@ -8,7 +8,7 @@ use native.Mathlib.Omega.{arith}
 use lib.ListN.{drop}
 use lib.Dec.{eqb}
 use borrow.Author.Tests.{eqb-true}
-use Rattle.memory.specs.Word.{if◌then◌else◌}
+use Rattle.memory.specs.Word.{when◌then◌else◌}
 use Rattle.memory.specs.declared.Pointer.{Pointer}
 use Rattle.memory.specs.Reading.{given, run, asked}
 use Rattle.memory.proofs.Agree.{same_outcome}
@@ -34,11 +34,11 @@ use Rattle.insertion.proofs.Latches.{latch-next}
 use Rattle.insertion.proofs.Lower.{apart-both, agree, no-mark, call-cells, Pairs, Lower, lower}
 
 -- at most one: no more after the first
-rest-none : (t : Bool) (n : ℕ) → t ≡ true → (if t then 1 else 0) + n ≤ 1 → n ≡ 0
+rest-none : (t : Bool) (n : ℕ) → t ≡ true → (when t then 1 else 0) + n ≤ 1 → n ≡ 0
 rest-none true n e h = omega arith
 rest-none false n e h = let z : ◌≡◌ {A = ℕ} 0 1 = cc in absurd (omega arith)
 
-rest-once : (t : Bool) (n : ℕ) → (if t then 1 else 0) + n ≤ 1 → n ≤ 1
+rest-once : (t : Bool) (n : ℕ) → (when t then 1 else 0) + n ≤ 1 → n ≤ 1
 rest-once true n h = omega arith
 rest-once false n h = omega arith
 

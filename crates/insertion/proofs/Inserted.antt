@@ -9,7 +9,7 @@ use native.Mathlib.Numerals.{add-one}
 use lib.ListN.{length, take, drop, get_elem?}
 use lib.Dec.{eqb}
 use borrow.Author.Tests.{eqb-true}
-use Rattle.memory.specs.Word.{if◌then◌else◌}
+use Rattle.memory.specs.Word.{when◌then◌else◌}
 use Rattle.memory.specs.declared.Pointer.{Pointer}
 use Rattle.memory.specs.Reading.{given, run, asked}
 use Rattle.memory.proofs.Agree.{same_outcome}
@@ -67,15 +67,15 @@ module _ (latch : ℕ) (σ : Settings) (link : ℕ) (old new : List ℕ) (h : In
     opening = start-passes latch σ h.no_window old d
 
     -- what each start reads, and its rows
-    apart-old : (all_apart (changed σ link new) (drop (if eqb (main_of σ) link then 2 else 0) (asked old (start_from latch σ))) ≡ true)
+    apart-old : (all_apart (changed σ link new) (drop (when eqb (main_of σ) link then 2 else 0) (asked old (start_from latch σ))) ≡ true)
         × (all_apart (changed σ link new) (rows_else σ old link 0 (main_of σ) (called_on o olds)) ≡ true)
     unfolding read_else
-    apart-old = rw (← f) (apart-both _ (drop (if eqb (main_of σ) link then 2 else 0) (asked old (start_from latch σ))) _ h.before.apart)
+    apart-old = rw (← f) (apart-both _ (drop (when eqb (main_of σ) link then 2 else 0) (asked old (start_from latch σ))) _ h.before.apart)
 
-    apart-new : (all_apart (changed σ link new) (drop (if eqb (main_of σ) link then 2 else 0) (asked new (start_from latch σ))) ≡ true)
+    apart-new : (all_apart (changed σ link new) (drop (when eqb (main_of σ) link then 2 else 0) (asked new (start_from latch σ))) ≡ true)
         × (all_apart (changed σ link new) (rows_else σ new link size (main_of σ) (called_on n news)) ≡ true)
     unfolding read_else
-    apart-new = rw (← g) (apart-both _ (drop (if eqb (main_of σ) link then 2 else 0) (asked new (start_from latch σ))) _ h.after.apart)
+    apart-new = rw (← g) (apart-both _ (drop (when eqb (main_of σ) link then 2 else 0) (asked new (start_from latch σ))) _ h.after.apart)
 
     alone : StartAlike latch (pointer_in σ (main_of σ) old) (pointer_in σ (main_of σ) old) o o
     alone = both-given (run-opens old old refl (start-opens latch σ h.no_window opening) (all_same old _)) d d

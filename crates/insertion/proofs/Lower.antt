@@ -7,7 +7,7 @@ use Prim.Native.Nat.{ℕ, ◌+◌, ◌-◌}
 use native.Mathlib.Omega.{arith}
 use lib.ListN.{drop}
 use lib.Dec.{eqb}
-use Rattle.memory.specs.Word.{if◌then◌else◌}
+use Rattle.memory.specs.Word.{when◌then◌else◌}
 use Rattle.memory.specs.declared.Pointer.{Pointer}
 use Rattle.memory.specs.Reading.{given, run, asked}
 use Rattle.memory.proofs.Agree.{All, none, also, SameWord}
@@ -39,7 +39,7 @@ module _ (bs : List ℕ) where
       (rw (k.0, i.0), i.1)
 
 -- a count of rows that follow the link: none of all, none of the rest
-pub none-followed : (t : Bool) (n : ℕ) → (if t then 1 else 0) + n ≡ 0 → (t ≡ false) × (n ≡ 0)
+pub none-followed : (t : Bool) (n : ℕ) → (when t then 1 else 0) + n ≡ 0 → (t ≡ false) × (n ≡ 0)
 none-followed true n e = absurd (omega arith)
 none-followed false n e = (refl, omega arith)
 

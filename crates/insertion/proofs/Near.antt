@@ -6,7 +6,7 @@ use mathlib.Core.List.{List, [], ◌∷◌}
 use Prim.Native.Nat.{ℕ, zero, suc, ◌+◌, ◌/◌}
 use lib.ListN.{length, get_or, drop}
 use lib.Dec.{ltb}
-use Rattle.memory.specs.Word.{if◌then◌else◌}
+use Rattle.memory.specs.Word.{when◌then◌else◌}
 use Rattle.memory.specs.declared.Fault.{Fault}
 use Rattle.memory.specs.declared.Pointer.{Pointer}
 use Rattle.memory.specs.Reading.{Role, Ask, Reading, done, refuse, ask, ◌>>=◌, read_as, one_pointer, check_of, Outcome, given, refused, run_from, run, asked}
@@ -86,8 +86,8 @@ module _ (old new : List ℕ) (len : length old ≡ length new) where
   -- one word, at an address that both ask for
   turn : {A B : Type 0} {R : A → B → Type 0} (t : Bool) (a n : ℕ) (f : ℕ → Reading A) (g : ℕ → Reading B) (x y : Fault)
       → ((w : ℕ) → All (SameWord old new) (asked new (g w)) → Outcomes R (run_from (n + 1) old (f w)) (run_from (n + 1) new (g w)))
-      → All (SameWord old new) (a ∷ (if t then asked new (g (get_or new (a / 2) 0)) else []))
-      → Outcomes R (if t then run_from (n + 1) old (f (get_or old (a / 2) 0)) else refused x) (if t then run_from (n + 1) new (g (get_or new (a / 2) 0)) else refused y)
+      → All (SameWord old new) (a ∷ (when t then asked new (g (get_or new (a / 2) 0)) else []))
+      → Outcomes R (when t then run_from (n + 1) old (f (get_or old (a / 2) 0)) else refused x) (when t then run_from (n + 1) new (g (get_or new (a / 2) 0)) else refused y)
   turn true a n f g x y h (also e k) = rw e (h (get_or new (a / 2) 0) k)
   turn false a n f g x y h k = refuseds
 
@@ -102,7 +102,7 @@ module _ (old new : List ℕ) (len : length old ≡ length new) where
   -- one word that may differ
   skip : {A B : Type 0} {R : A → B → Type 0} (t : Bool) (k a : ℕ) (o : Outcome A) (u : Outcome B) (x y : Fault) (rest : List ℕ)
       → (All (SameWord old new) (drop k rest) → Outcomes R o u)
-      → All (SameWord old new) (drop (suc k) (a ∷ (if t then rest else []))) → Outcomes R (if t then o else refused x) (if t then u else refused y)
+      → All (SameWord old new) (drop (suc k) (a ∷ (when t then rest else []))) → Outcomes R (when t then o else refused x) (when t then u else refused y)
   skip true k a o u x y rest h i = h i
   skip false k a o u x y rest h i = refuseds
 

@@ -5,7 +5,7 @@ use mathlib.Core.List.{List, [], ◌∷◌}
 use Prim.Native.Nat.{ℕ}
 use lib.ListN.{length, drop}
 use lib.Dec.{eqb}
-use Rattle.memory.specs.Word.{if◌then◌else◌}
+use Rattle.memory.specs.Word.{when◌then◌else◌}
 use Rattle.memory.specs.declared.Pointer.{Pointer}
 use Rattle.memory.specs.Reading.{Outcome, given, run, asked}
 use Rattle.memory.specs.Address.{nothing, null}
@@ -84,7 +84,7 @@ close-like {f} {g} h = subst (λ (x : Fields). Like x g) (left-path h.bare) (sub
 module _ (σ : Settings) (m : List ℕ) where
   -- the link of the block that fields lead to
   abbrev pub link_read : Fields → Pointer
-  link_read f = if eqb f.next.address 0 then nothing else pointer_in σ f.next.address m
+  link_read f = when eqb f.next.address 0 then nothing else pointer_in σ f.next.address m
 
   -- the block redefines nothing
   abbrev pub Unredefined : Fields → Type 0

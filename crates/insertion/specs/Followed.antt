@@ -1,7 +1,7 @@
 -- The terms of request §13: the states that a frame's rows are called on, where the changed link is followed, and which words are read for
 -- anything else.
 use Rattle.std.specs.Prelude.{ℕ, suc, ◌+◌, ◌/◌, Bool, true, ◌&&◌, not, List, [], ◌∷◌, ◌++◌, drop, eqb}
-use Rattle.memory.specs.Word.{if◌then◌else◌, at}
+use Rattle.memory.specs.Word.{when◌then◌else◌, at}
 use Rattle.memory.specs.declared.Pointer.{Pointer}
 use Rattle.memory.specs.Reading.{Outcome, given, refused, run, asked}
 use Rattle.memory.specs.Address.{nothing, pointer, null, next_word}
@@ -50,12 +50,12 @@ pointer_in σ link m = pointer σ.linear link (word_at m link) (word_at m (next_
 -- each next from the block of the row above.
 unfoldable pub times_followed : (link holder : ℕ) → List State → ℕ
 times_followed link holder [] = 0
-times_followed link holder (s ∷ ss) = (if eqb holder link then 1 else 0) + times_followed link (block_of s) ss
+times_followed link holder (s ∷ ss) = (when eqb holder link then 1 else 0) + times_followed link (block_of s) ss
 
 -- the number of the first row drawn from what it gives; that of all rows, where it is not followed
 unfoldable pub first_followed : (link holder : ℕ) → List State → ℕ
 first_followed link holder [] = 0
-first_followed link holder (s ∷ ss) = if eqb holder link then 0 else suc (first_followed link (block_of s) ss)
+first_followed link holder (s ∷ ss) = when eqb holder link then 0 else suc (first_followed link (block_of s) ss)
 
 -- ---- words read ----
 
@@ -75,7 +75,7 @@ all_apart bs (a ∷ rest) = apart bs a && all_apart bs rest
 -- How many words, of those that are read first, are read as the link or as the new block: the two of the link, in the block that holds it; in the
 -- row drawn from what the link gives, the `size` words of its block.
 abbrev pub own_words : (link size holder block : ℕ) → ℕ
-own_words link size holder block = if eqb block link then 2 else if eqb holder link then size else 0
+own_words link size holder block = when eqb block link then 2 else when eqb holder link then size else 0
 
 -- the addresses read by rows for anything else
 unfoldable pub rows_else : Settings → List ℕ → (link size holder : ℕ) → List State → List ℕ
@@ -86,7 +86,7 @@ rows_else σ m link size holder (s ∷ ss) =
 -- .. by a frame: its start reads the main block first
 unfoldable pub read_else : ℕ → Settings → List ℕ → (link size : ℕ) → List ℕ
 read_else latch σ m link size =
-    drop (if eqb (main_of σ) link then 2 else 0) (asked m (start_from latch σ)) ++ rows_else σ m link size (main_of σ) (states latch σ m)
+    drop (when eqb (main_of σ) link then 2 else 0) (asked m (start_from latch σ)) ++ rows_else σ m link size (main_of σ) (states latch σ m)
 
 -- ---- redefinitions ----
 

@@ -8,7 +8,7 @@ use native.Mathlib.Nat.{add-zero, zero-add, le_refl}
 use native.Mathlib.Numerals.{add-one}
 use lib.ListN.{length, get_or}
 use lib.Dec.{ltb}
-use Rattle.memory.specs.Word.{if◌then◌else◌, high, low}
+use Rattle.memory.specs.Word.{when◌then◌else◌, high, low}
 use Rattle.memory.specs.Reading.{Reading, ◌>>=◌, each, Outcome, given, run_from}
 use Rattle.memory.specs.declared.Pointer.{Pointer}
 use Rattle.memory.specs.Address.{null, ahead, further}
@@ -73,7 +73,7 @@ module _ (b : Bool) (latch : ℕ) where
   Has Unclear x y = Unit {0}
 
   has_word : (t : Bool) (w : ℕ) (f : LatchEffect) (x : Bool) (y : ℕ) → Has f x y
-      → Has (if t then Latched w else f) (if t then true else x) (if t then w else y)
+      → Has (when t then Latched w else f) (when t then true else x) (when t then w else y)
   has_word true w f x y h = (refl, refl)
   has_word false w f x y h = h
 
@@ -215,8 +215,8 @@ module _ (m : List ℕ) (σ : CodeSettings) (fill : FillMode) (no : fill.flag �
       drawn = run_from n m (codes σ source end (code_count g) g.codes (with_list (list_at g.attributes) d))
 
       by : (t : Bool) → null g.attributes ≡ t → is_run σ.linear (length m) g.codes.address size ≡ true
-          → is_run σ.linear (length m) g.attributes.address (if t then 0 else count) ≡ true
-          → Tells b latch (last_latched m (g.attributes.address / 2) (if t then 0 else count)) drawn
+          → is_run σ.linear (length m) g.attributes.address (when t then 0 else count) ≡ true
+          → Tells b latch (last_latched m (g.attributes.address / 2) (when t then 0 else count)) drawn
       by true e r s =
           tells-given b latch (λ x y u h. h.0)
           (codes-run m σ source end (λ _. Of (Plain m σ source end b latch)) count (λ n i code d _ h. plain_step m σ source end b latch n code d h) g.codes size r (code_count g) n _ refl (le_refl count) ((refl, refl), rw e))
@@ -256,6 +256,6 @@ module _ (σ : CodeSettings) (m : List ℕ) (fill : FillMode) (o : Overlay) (gs 
       told latch (Latched w) (tells h) = rw (h.0, h.1)
       told latch Unclear t = refl
 
-      by : (t : Bool) → fill.flag ≡ t → AsDrawn σ m fill o gs (if t then Unclear else over_parts σ m o gs)
+      by : (t : Bool) → fill.flag ≡ t → AsDrawn σ m fill o gs (when t then Unclear else over_parts σ m o gs)
       by true e n latch = refl
       by false e n latch = told latch (over_parts σ m o gs) (row-tells m σ fill e o gs n (blank latch))

@@ -5,7 +5,7 @@ use mathlib.Core.Bool.{Bool, true, false}
 use Prim.Native.Nat.{ℕ, suc, ◌+◌, ◌-◌, ◌<◌, ◌≤◌}
 use native.Mathlib.Omega.{arith}
 use lib.ListN.{get_or}
-use Rattle.memory.specs.Word.{if◌then◌else◌, high, low}
+use Rattle.memory.specs.Word.{when◌then◌else◌, high, low}
 use Rattle.codes.specs.declared.CodeSettings.{CodeSettings}
 use Rattle.blocks.specs.declared.Segment.{Segment}
 use Rattle.blocks.specs.declared.SegmentCount.{SegmentCount}
@@ -48,11 +48,11 @@ module _ (σ : CodeSettings) (m : List ℕ) (side : Side) (count : SegmentCount)
 
   module _ (f : LatchEffect) where
     pub side-more : i < count.number
-        → join f (over (segments_past σ.linear count ws i)) ≡ join (join f (if chosen then over_segment σ m turn else Kept)) (over_segments σ m after)
+        → join f (over (segments_past σ.linear count ws i)) ≡ join (join f (when chosen then over_segment σ m turn else Kept)) (over_segments σ m after)
     unfolding segments_on over_segments
     side-more h = ap (λ (gs : List Segment). join f (over gs)) (segments-more σ.linear count ws i h) ∙ by chosen
       where
-        by : (b : Bool) → join f (over_segments σ m (if b then turn ∷ after else after)) ≡ join (join f (if b then over_segment σ m turn else Kept)) (over_segments σ m after)
+        by : (b : Bool) → join f (over_segments σ m (when b then turn ∷ after else after)) ≡ join (join f (when b then over_segment σ m turn else Kept)) (over_segments σ m after)
         by true = sym (join-assoc f (over_segment σ m turn) (over_segments σ m after))
         by false = rw (join_kept f)
 
@@ -80,7 +80,7 @@ module _ (flag : ℕ) (m : List ℕ) (at left : ℕ) where
 -- words from the last on
 module _ (m : List ℕ) (at left : ℕ) where
   pub latched-turn : 0 < left
-      → last_latched m at left ≡ (if latches (get_or m (at + (left - 1)) 0) then Latched (get_or m (at + (left - 1)) 0) else last_latched m at (left - 1))
+      → last_latched m at left ≡ (when latches (get_or m (at + (left - 1)) 0) then Latched (get_or m (at + (left - 1)) 0) else last_latched m at (left - 1))
   unfolding last_latched
   latched-turn h =
       let e : left ≡ suc (left - 1) = omega arith in

@@ -1,7 +1,7 @@
 -- What a row does to the latch, without its cells. Where no fill run takes a word, only the codes of its segments take words, and
 -- the latch becomes the last of them that has bit 15.
 use Rattle.std.specs.Prelude.{ℕ, zero, suc, ◌+◌, ◌/◌, ◌≡◌, ◌&&◌, List, [], ◌∷◌, length, get_or}
-use Rattle.memory.specs.Word.{if◌then◌else◌, high, low}
+use Rattle.memory.specs.Word.{when◌then◌else◌, high, low}
 use Rattle.memory.specs.Reading.{Outcome, given, refused, run_from}
 use Rattle.memory.specs.Answers.{is_run}
 use Rattle.codes.specs.declared.CodeSettings.{CodeSettings}
@@ -26,7 +26,7 @@ join (Latched w) Unclear = Unclear
 
 -- the words that a code takes of its segment's list
 abbrev pub takes : ℕ → ℕ → ℕ
-takes flag code = if invokes flag code then 1 else 0
+takes flag code = when invokes flag code then 1 else 0
 
 -- those that n codes take, which stand in memory from word number `at` on
 unfoldable pub invoking : ℕ → List ℕ → ℕ → ℕ → ℕ
@@ -38,17 +38,17 @@ invoking flag m at (suc (suc n)) =
 -- the last of k words with bit 15, from word number `at` on
 unfoldable pub last_latched : List ℕ → ℕ → ℕ → LatchEffect
 last_latched m at zero = Kept
-last_latched m at (suc k) = if latches (get_or m (at + k) 0) then Latched (get_or m (at + k) 0) else last_latched m at k
+last_latched m at (suc k) = when latches (get_or m (at + k) 0) then Latched (get_or m (at + k) 0) else last_latched m at k
 
 module _ (σ : CodeSettings) (m : List ℕ) where
   -- "A code invokes an attribute when .. its segment's attribute pointer is not null"
   unfoldable pub taken : Segment → ℕ
-  taken g = if null g.attributes then 0 else invoking σ.flag m (g.codes.address / 2) (code_count g)
+  taken g = when null g.attributes then 0 else invoking σ.flag m (g.codes.address / 2) (code_count g)
 
   -- unclear unless the words of its codes, and those they take, each stand one after the other in memory
   unfoldable pub over_segment : Segment → LatchEffect
   over_segment g =
-      if is_run σ.linear (length m) g.codes.address ((code_count g + 1) / 2) && is_run σ.linear (length m) g.attributes.address (taken g)
+      when is_run σ.linear (length m) g.codes.address ((code_count g + 1) / 2) && is_run σ.linear (length m) g.attributes.address (taken g)
       then last_latched m (g.attributes.address / 2) (taken g)
       else Unclear
 
@@ -65,11 +65,11 @@ module _ (σ : CodeSettings) (m : List ℕ) where
 
   -- unclear with the fill flag, whose runs depend on the cells drawn
   unfoldable pub over_row : FillMode → Overlay → List Segment → LatchEffect
-  over_row fill o gs = if fill.flag then Unclear else over_parts o gs
+  over_row fill o gs = when fill.flag then Unclear else over_parts o gs
 
 -- what a drawing has made of the latch in the end; a refused one says nothing
 abbrev pub ending : Outcome Drawing → LatchEffect
-ending (given n d) = if d.pen.latched then Latched d.pen.latch else Kept
+ending (given n d) = when d.pen.latched then Latched d.pen.latch else Kept
 ending (refused x) = Unclear
 
 -- what is told, or the other where that is unclear

@@ -1,7 +1,7 @@
 #![tactic(auto)]
 // What a row does to the latch, told without cells, where no fill run takes a word and every word is there.
 ghost use Rattle.std.specs.Prelude.{◌≡◌};
-ghost use Rattle.memory.specs.Word.{if◌then◌else◌};
+ghost use Rattle.memory.specs.Word.{when◌then◌else◌};
 ghost use Rattle.blocks.specs.RowBlock.{segments_of};
 ghost use Rattle.layout.specs.Layout.{segments_on};
 ghost use Rattle.layout.specs.Answers.{overlay_of};
@@ -84,7 +84,7 @@ fn side_latch(
 
 // The latch over one segment, where it is chosen.
 fn chosen_latch(mem: &[u16], settings: CodeSettings, chosen: bool, g: Segment) -> LatchEffect
-    ensures { result ≡ (if chosen then over_segment settings mem.now g else Kept) }
+    ensures { result ≡ (when chosen then over_segment settings mem.now g else Kept) }
 {
     if chosen {
         segment::segment_latch(mem, settings, g)

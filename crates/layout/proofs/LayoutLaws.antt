@@ -7,7 +7,7 @@ use native.Mathlib.Omega.{arith}
 use lib.ListN.{length}
 use lib.Dec.{ltb, leb, eqb}
 use borrow.Author.Tests.{ltb-true, ltb-false, leb-true, eqb-true, le-leb, lt-leb, leb-false, not-true}
-use Rattle.memory.specs.Word.{if◌then◌else◌}
+use Rattle.memory.specs.Word.{when◌then◌else◌}
 use Rattle.memory.proofs.ReadBounds.{if-cases, both}
 use Rattle.blocks.specs.declared.Segment.{Segment}
 use Rattle.memory.specs.Address.{null}
@@ -102,7 +102,7 @@ module _ (hidden : Bool) where
       omega (arith, one (ltb s first) (not (covered first end s w)) x y, sides-length first end (s + w) gs)
     where
       one : (b c : Bool) (x y : List Segment)
-          → length (if b then g ∷ x else x) + length (if not b && c then g ∷ y else y) ≤ suc (length x + length y)
+          → length (when b then g ∷ x else x) + length (when not b && c then g ∷ y else y) ≤ suc (length x + length y)
       one true c x y = omega arith
       one false true x y = omega arith
       one false false x y = omega arith

@@ -1,6 +1,6 @@
 -- Document 01, "A row, left to right": widths of segments, boundaries, and the segments that a window covers.
 use Rattle.std.specs.Prelude.{ℕ, ◌+◌, Bool, true, ◌&&◌, ◌||◌, not, List, [], ◌∷◌, ltb, leb, eqb}
-use Rattle.memory.specs.Word.{if◌then◌else◌}
+use Rattle.memory.specs.Word.{when◌then◌else◌}
 use Rattle.blocks.specs.declared.Segment.{Segment}
 use Rattle.memory.specs.Address.{null}
 use Rattle.layout.specs.declared.Side.{Side}
@@ -8,7 +8,7 @@ use Rattle.layout.specs.declared.Side.TheVariants.{Whole, Before, After}
 
 -- "Segment width: V, or L with DH. .. With a null code pointer the width is V"
 unfoldable pub width : Bool → Segment → ℕ
-width hidden g = if hidden && not (null g.codes) then g.length else g.visible
+width hidden g = when hidden && not (null g.codes) then g.length else g.visible
 
 -- the widths' sum
 unfoldable pub total : Bool → List Segment → ℕ
@@ -55,4 +55,4 @@ segments_on side hidden s [] = []
 segments_on side hidden s (g ∷ gs) =
     let w : ℕ = width hidden g in
     let rest : List Segment = segments_on side hidden (s + w) gs in
-    if on_side side s w then g ∷ rest else rest
+    when on_side side s w then g ∷ rest else rest

@@ -1,6 +1,6 @@
 -- Document 01, "What a refused call says" and "A row, left to right": the window on a row.
 use Rattle.std.specs.Prelude.{ℕ, ◌+◌, ◌-◌, ◌&&◌, leb}
-use Rattle.memory.specs.Word.{if◌then◌else◌}
+use Rattle.memory.specs.Word.{when◌then◌else◌}
 use Rattle.memory.specs.declared.Pointer.{Pointer}
 use Rattle.memory.specs.Reading.{Reading, done, ◌>>=◌, ◌>>◌, check, check_of}
 use Rattle.settings.specs.declared.Settings.{Settings}
@@ -34,6 +34,6 @@ window_row σ w = do
 unfoldable pub overlaid : Settings → ℕ → WindowInHand → Reading Overlaid
 overlaid σ row Absent = done (record { overlay = none; window = Absent })
 overlaid σ row (Present w) =
-    if leb w.block.top row && leb row w.block.bottom
+    when leb w.block.top row && leb row w.block.bottom
     then window_row σ w
     else done (record { overlay = none; window = Present w })

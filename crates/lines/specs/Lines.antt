@@ -3,7 +3,7 @@
 use Rattle.std.specs.Prelude.{ℕ, zero, suc, ◌+◌, ◌/◌, ◌%◌, ◌≤◌, ◌≡◌, List, [], ◌∷◌, ◌++◌, length, take, ltb, eqb}
 use Prim.Native.Char.{code}
 use Prim.Native.String.{String, [] as []ₛ, ◌∷◌ as ◌∷ₛ◌}
-use Rattle.memory.specs.Word.{if◌then◌else◌}
+use Rattle.memory.specs.Word.{when◌then◌else◌}
 use Rattle.memory.specs.declared.Refusal.{Refusal}
 use Rattle.settings.specs.declared.Settings.{Settings}
 use Rattle.settings.specs.Good.{shown_columns}
@@ -16,7 +16,7 @@ text (c ∷ₛ cs) = code c ∷ text cs
 
 -- a digit, "hex in capitals"
 abbrev pub digit : ℕ → ℕ
-digit d = if ltb d 10 then 48 + d else 55 + d
+digit d = when ltb d 10 then 48 + d else 55 + d
 
 -- the last k digits of a number, the highest first
 unfoldable pub digits : ℕ → ℕ → ℕ → List ℕ
@@ -30,7 +30,7 @@ hex k n = digits 16 k n
 unfoldable pub fewest : List ℕ → List ℕ
 fewest [] = []
 fewest (c ∷ []) = c ∷ []
-fewest (c ∷ d ∷ ds) = if eqb c 48 then fewest (d ∷ ds) else c ∷ d ∷ ds
+fewest (c ∷ d ∷ ds) = when eqb c 48 then fewest (d ∷ ds) else c ∷ d ∷ ds
 
 -- 20 digits hold every number of 64 bits
 abbrev pub decimal : ℕ → List ℕ
@@ -65,7 +65,7 @@ end_line rows words = text "end rows " ++ decimal rows ++ text " words " ++ deci
 
 -- "A refusal prints `refused N row R at AAAAAA`". 02: the line "gains ` from AAAAAA` at the end, for refusal 7 only"
 abbrev pub origin : Refusal → List ℕ
-origin r = if eqb r.number 7 then text " from " ++ hex 6 r.from else []
+origin r = when eqb r.number 7 then text " from " ++ hex 6 r.from else []
 
 unfoldable pub refusal_line : Refusal → List ℕ
 refusal_line r =

@@ -9,7 +9,7 @@ use lib.ListN.{length, get_or, set, drop, length-append}
 use lib.Seq.{set_comm, sets, sets-eq}
 use lib.Dec.{ltb, eqb}
 use borrow.Author.Tests.{eq-eqb}
-use Rattle.memory.specs.Word.{if◌then◌else◌}
+use Rattle.memory.specs.Word.{when◌then◌else◌}
 use Rattle.memory.specs.Reading.{Reading, done, refuse, ask, absent, ◌>>=◌, Outcome, given, refused, run_from, run, asked}
 use Rattle.memory.proofs.Laws.{after, run-after}
 use Rattle.memory.proofs.ReadBounds.{Words}
@@ -94,7 +94,7 @@ row-law σ m b s byte before l lb ll r buffer k e f =
     (ap₂ called_with e (f ∙ after-row σ s.fields before (asked m (row σ s)) l (run m (row σ s)) e (omega (arith, row_room σ m b s byte))))
 
 -- a row that was refused was not sure
-pub not-certain : (certain : Bool) (x y : List ℕ) → (certain ≡ true → false ≡ true) → (if certain then x else y) ≡ y
+pub not-certain : (certain : Bool) (x y : List ℕ) → (certain ≡ true → false ≡ true) → (when certain then x else y) ≡ y
 not-certain true x y h = let e = h refl in let z : ◌≡◌ {A = ℕ} 0 1 = cc in absurd (omega arith)
 not-certain false x y h = refl
 
@@ -108,8 +108,8 @@ words-asked n m (refuse x) e = let q : ◌≡◌ {A = ℕ} 0 1 = cc in absurd (o
 words-asked n m (ask q f) {k} {a} e = turn (ltb (q.address / 2) (length m)) n (words-asked (n + 1) m (f (get_or m (q.address / 2) 0))) e
   where
     turn : (b : Bool) (n : ℕ) → (run_from (n + 1) m (f (get_or m (q.address / 2) 0)) ≡ given k a → k ≡ n + 1 + length (asked m (f (get_or m (q.address / 2) 0))))
-        → (if b then run_from (n + 1) m (f (get_or m (q.address / 2) 0)) else refused (absent q)) ≡ given k a
-        → k ≡ n + suc (length (if b then asked m (f (get_or m (q.address / 2) 0)) else []))
+        → (when b then run_from (n + 1) m (f (get_or m (q.address / 2) 0)) else refused (absent q)) ≡ given k a
+        → k ≡ n + suc (length (when b then asked m (f (get_or m (q.address / 2) 0)) else []))
     turn true n h e = omega (arith, h e)
     turn false n h e = let z : ◌≡◌ {A = ℕ} 0 1 = cc in absurd (omega arith)
 
@@ -140,8 +140,8 @@ asked-bind n m (ask q f) k {i} {a} e = ap (◌∷◌ q.address) (turn (ltb (q.ad
   where
     turn : (b : Bool) → (run_from (n + 1) m (f (get_or m (q.address / 2) 0)) ≡ given i a
         → asked m (f (get_or m (q.address / 2) 0) >>= k) ≡ asked m (f (get_or m (q.address / 2) 0)) ++ asked m (k a))
-        → (if b then run_from (n + 1) m (f (get_or m (q.address / 2) 0)) else refused (absent q)) ≡ given i a
-        → (if b then asked m (f (get_or m (q.address / 2) 0) >>= k) else []) ≡ (if b then asked m (f (get_or m (q.address / 2) 0)) else []) ++ asked m (k a)
+        → (when b then run_from (n + 1) m (f (get_or m (q.address / 2) 0)) else refused (absent q)) ≡ given i a
+        → (when b then asked m (f (get_or m (q.address / 2) 0) >>= k) else []) ≡ (when b then asked m (f (get_or m (q.address / 2) 0)) else []) ++ asked m (k a)
     turn true h e = h e
     turn false h e = let z : ◌≡◌ {A = ℕ} 0 1 = cc in absurd (omega arith)
 
@@ -151,7 +151,7 @@ unfolding asked ◌>>=◌
 asked-made m (done a) f = refl
 asked-made m (refuse x) f = refl
 asked-made m (ask q g) f =
-    ap (λ (xs : List ℕ). q.address ∷ (if ltb (q.address / 2) (length m) then xs else [])) (asked-made m (g (get_or m (q.address / 2) 0)) f)
+    ap (λ (xs : List ℕ). q.address ∷ (when ltb (q.address / 2) (length m) then xs else [])) (asked-made m (g (get_or m (q.address / 2) 0)) f)
 
 -- addresses at later places, then at the places before them
 set_before : (l : List ℕ) (i x j : ℕ) (ys : List ℕ) → i < j → set (sets l j ys) i x ≡ sets (set l i x) j ys
@@ -180,7 +180,7 @@ module _ (σ : Settings) (m : List ℕ) (s : State) where
 
   -- .. so a list has those of the row that has its blocks' and, already, its cells'; or that has all at once
   pub row-placed : {n : ℕ} {p : Plan} → given n p ≡ run m (plan σ s.fields) → (certain : Bool) (at : ℕ) (l whole k : List ℕ) → asked m (row σ s) ≡ whole
-      → k ≡ sets (if certain then sets l (at + n) (asked m (cells_of p)) else l) at (if certain then block_addresses σ.linear m s.fields p.overlay else whole)
+      → k ≡ sets (when certain then sets l (at + n) (asked m (cells_of p)) else l) at (when certain then block_addresses σ.linear m s.fields p.overlay else whole)
       → k ≡ sets l at (asked m (row σ s))
   row-placed {n} {p} e true at l whole k is f =
       let blocks = block_addresses σ.linear m s.fields p.overlay in

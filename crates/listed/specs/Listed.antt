@@ -1,7 +1,7 @@
 -- Document 02, "Two desks on one memory": "The addresses of the words read, in order, are wanted from a start and a row, in a lent list
 -- of 12,000 places".
 use Rattle.std.specs.Prelude.{ℕ, List, ◌++◌, length, drop, eqb}
-use Rattle.memory.specs.Word.{if◌then◌else◌}
+use Rattle.memory.specs.Word.{when◌then◌else◌}
 use Rattle.memory.specs.Reading.{Reading, Outcome, given, refused, fault, refusal, run, asked}
 use Rattle.settings.specs.declared.Settings.{Settings}
 use Rattle.state.specs.declared.State.{State}
@@ -36,7 +36,7 @@ start_with answer list = record { answer = answer; list = list }
 -- Refusal 25: "another number of list places, just after 1", so first of all in a start, which has no 1
 unfoldable pub start_listed : ℕ → Settings → List ℕ → List ℕ → StartListed
 start_listed latch σ m list =
-    if eqb (length list) 12000
+    when eqb (length list) 12000
     then start_with (start_call latch σ m) (list_after m (start_from latch σ) list)
     else start_with (Start.Refused (refusal 0 (fault 25))) list
 
@@ -56,8 +56,8 @@ called_with c list = row_with c.answer c.buffer list
 -- 25 "just after 1"; 1 is the row call's
 unfoldable pub row_listed : Settings → List ℕ → State → List ℕ → List ℕ → RowListed
 row_listed σ m s buffer list =
-    if eqb (length buffer) 132
-    then (if eqb (length list) 12000
+    when eqb (length buffer) 132
+    then (when eqb (length list) 12000
     then called_with (row_call σ m s buffer) (list_after m (row σ s) list)
     else row_with (Row.Refused (refusal s.fields.row (fault 25))) buffer list)
     else called_with (row_call σ m s buffer) list

@@ -1,7 +1,7 @@
 // A planned row, sure or not.
 ghost use Rattle.std.specs.Prelude.{◌≡◌, Bool, true, ◌+◌, ◌≤◌, length};
 ghost use Rattle.std.proofs.lemmas.List.Edits.{sets};
-ghost use Rattle.memory.specs.Word.{if◌then◌else◌};
+ghost use Rattle.memory.specs.Word.{when◌then◌else◌};
 ghost use Rattle.memory.specs.Reading.{given, run, asked};
 ghost use Rattle.blocks.specs.RowBlock.{segments_of};
 ghost use Rattle.layout.specs.Answers.{overlay_of};
@@ -36,7 +36,7 @@ pub(crate) fn draw(
     requires fact { ((certain ≡ true → sure_row settings.hidden state.fields.fill.flag mem.now (overlay_of true p.overlay window.now) (segments_of true p.count back.now) ≡ true)) × (at ≤ 13) }
     ensures few_words { FewWords result × (certain ≡ true → is_accepted result ≡ true) }
     ensures buffer_after { called result buffer.new ≡ answered settings state.fields buffer.old (run mem.now (row settings state)) }
-    ensures list_after { list.new ≡ (if certain then sets list.old (at + p.words) (asked mem.now (row_cells (code_settings settings) state.fields.fill (overlay_of true p.overlay window.now) (segments_of true p.count back.now) (blank state.latch))) else list.old) }
+    ensures list_after { list.new ≡ (when certain then sets list.old (at + p.words) (asked mem.now (row_cells (code_settings settings) state.fields.fill (overlay_of true p.overlay window.now) (segments_of true p.count back.now) (blank state.latch))) else list.old) }
 {
     if certain {
         draw_sure(settings, mem, state, p, back, window, buffer, at, list)

@@ -8,7 +8,7 @@ use native.Mathlib.Omega.{arith}
 use lib.ListN.{length, get_or, take, drop}
 use lib.Seq.{take-append_seam}
 use lib.Dec.{eqb, ltb}
-use Rattle.memory.specs.Word.{if◌then◌else◌}
+use Rattle.memory.specs.Word.{when◌then◌else◌}
 use Rattle.memory.specs.declared.Fault.{Fault}
 use Rattle.memory.proofs.ReadBounds.{both}
 use Rattle.memory.specs.Reading.{Reading, done, refuse, ask, fault, refusal, absent, Outcome, given, refused, run_from, run, asked}
@@ -30,7 +30,7 @@ use Rattle.listed_alone.specs.DemandListed.{Call, is_row, on_lent, in_turn, row_
 -- ---- as many addresses as words ----
 
 count_turn : {A : Type 0} (t : Bool) (n k : ℕ) (a : ℕ) (l : List ℕ) (o : Outcome A) (x : Fault) {r : A}
-    → (o ≡ given k r → k ≡ n + 1 + length l) → (if t then o else refused x) ≡ given k r → k ≡ n + length (a ∷ (if t then l else []))
+    → (o ≡ given k r → k ≡ n + 1 + length l) → (when t then o else refused x) ≡ given k r → k ≡ n + length (a ∷ (when t then l else []))
 count_turn true n k a l o x h e = omega (arith, h e)
 count_turn false n k a l o x h e = let q : ◌≡◌ {A = ℕ} 0 1 = cc in absurd (omega arith)
 
@@ -60,8 +60,8 @@ wrong σ m s b list = by_size (eqb (length b) 132) (eqb (length list) 12000)
   where
     answer : (t u : Bool) → RowAnswer
     answer t u =
-        let c : Called = if t then answered σ s.fields b (run m (row σ s)) else called (Refused (refusal s.fields.row (fault 1))) b in
-        (if t then (if u then called_with c (list_after m (row σ s) list) else row_with (Refused (refusal s.fields.row (fault 25))) b list) else called_with c list).answer
+        let c : Called = when t then answered σ s.fields b (run m (row σ s)) else called (Refused (refusal s.fields.row (fault 1))) b in
+        (when t then (when u then called_with c (list_after m (row σ s) list) else row_with (Refused (refusal s.fields.row (fault 25))) b list) else called_with c list).answer
 
     by_size : (t u : Bool) → t && u ≡ false → state_after s (answer t u) ≡ s
     by_size true true e = let q : ◌≡◌ {A = ℕ} 0 1 = cc in absurd (omega arith)

@@ -2,7 +2,7 @@
 -- refused 1, and lends the row drawn alone a list of 12,000 places; an effect is lent no list and takes a row's checks but 1 and 25."
 -- Without lists it is `Demand3` of effect/specs/Demand.antt, whose words on effects hold here too.
 use Rattle.std.specs.Prelude.{ℕ, ◌≡◌, Bool, ◌&&◌, List, [], ◌∷◌, ◌++◌, length, take, drop, eqb}
-use Rattle.memory.specs.Word.{if◌then◌else◌}
+use Rattle.memory.specs.Word.{when◌then◌else◌}
 use Rattle.settings.specs.declared.Settings.{Settings}
 use Rattle.state.specs.declared.Fields.{Fields}
 use Rattle.state.specs.declared.State.{State}
@@ -46,7 +46,7 @@ module _ (σ : Settings) (m : List ℕ) where
   in_turn s (c ∷ cs) =
       let out : RowListed = row_listed σ m s c.buffer c.list in
       let rest : List RowListed = in_turn (state_after s out.answer) cs in
-      if is_row c then out ∷ rest else rest
+      when is_row c then out ∷ rest else rest
 
   -- the first refusal of the rows above; or a row call with 132 cells and a list of 12,000 places, on the fields then reached and the
   -- latch that the joined effects make of the first one
@@ -61,7 +61,7 @@ module _ (σ : Settings) (m : List ℕ) where
   drawn_alone first f above [] = []
   drawn_alone first f above (c ∷ cs) =
       let x : EffectAnswer = effect_on σ m (state_of c.effect_latch f) in
-      if is_row c
+      when is_row c
       then row_alone f c (apply above first) ∷ drawn_alone first (fields_after f x.next) (join above x.effect) cs
       else drawn_alone first f above cs
 

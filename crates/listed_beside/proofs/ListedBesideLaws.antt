@@ -10,7 +10,7 @@ use lib.Dec.{eqb}
 use lib.ListN.{length, length-append}
 use lib.Seq.{sets}
 use borrow.Author.Tests.{eq-eqb, ne_eqb}
-use Rattle.memory.specs.Word.{if◌then◌else◌}
+use Rattle.memory.specs.Word.{when◌then◌else◌}
 use Rattle.memory.specs.declared.Refusal.{Refusal}
 use Rattle.memory.specs.Reading.{Reading, ◌>>=◌, Outcome, given, refused, fault, refusal, run, asked}
 use Rattle.memory.proofs.Laws.{bind-given, bind-refused, after, run-after}
@@ -137,7 +137,7 @@ module _ (σ : Settings) (m : List ℕ) (latch : ℕ) (last : State) (buffer l :
       s : State
       s = state_of last.latch (with_one_line last.fields)
 
-      by : (t : Bool) → without_list (told_listed (if t then called_with (row_call σ m s buffer) (list_after m (row σ s) l) else called_with (row_call σ m s buffer) l))
+      by : (t : Bool) → without_list (told_listed (when t then called_with (row_call σ m s buffer) (list_after m (row σ s) l) else called_with (row_call σ m s buffer) l))
           ≡ told_call 0 (row_call σ m s buffer)
       by true = refl
       by false = refl
@@ -146,7 +146,7 @@ module _ (σ : Settings) (m : List ℕ) (latch : ℕ) (last : State) (buffer l :
   unfolding above_listed
   above_same = rw (eq-eqb (length l) 12000 places) (by (eqb (length buffer) 132))
     where
-      by : (t : Bool) → without_list (if t then above_with (row_above σ m latch buffer) (list_after m (start_from latch σ >>= row σ) l) else above_with (row_above σ m latch buffer) l)
+      by : (t : Bool) → without_list (when t then above_with (row_above σ m latch buffer) (list_after m (start_from latch σ >>= row σ) l) else above_with (row_above σ m latch buffer) l)
           ≡ row_above σ m latch buffer
       by true = refl
       by false = refl
@@ -158,8 +158,8 @@ unfolding beside_listed beside_call
 without-list σ m shift soft latch last buffer l places = by (lt_z (pos 0) shift) (lt_z shift (pos 0))
   where
     by : (t u : Bool)
-        → (let x : BesideListed = if t then below_listed σ m last buffer l else if u then above_listed (with_top σ soft) m latch buffer l else beside_with Absent buffer l in beside_called x.answer x.buffer)
-        ≡ (if t then row_below σ m last buffer else if u then row_above (with_top σ soft) m latch buffer else beside_called Absent buffer)
+        → (let x : BesideListed = when t then below_listed σ m last buffer l else when u then above_listed (with_top σ soft) m latch buffer l else beside_with Absent buffer l in beside_called x.answer x.buffer)
+        ≡ (when t then row_below σ m last buffer else when u then row_above (with_top σ soft) m latch buffer else beside_called Absent buffer)
     by true u = below-same σ m latch last buffer l places
     by false true = above_same (with_top σ soft) m latch last buffer l places
     by false false = refl

@@ -1,7 +1,7 @@
 -- The row beside the cut with a list of the addresses read: it is a row "under the same rules" (document 02), so it is lent one too.
 use Rattle.std.specs.Prelude.{ℕ, List, ℤ, pos, length, eqb}
 use Rattle.std.specs.Int.Signed.{lt_z}
-use Rattle.memory.specs.Word.{if◌then◌else◌}
+use Rattle.memory.specs.Word.{when◌then◌else◌}
 use Rattle.memory.specs.Reading.{◌>>=◌, fault, refusal}
 use Rattle.settings.specs.declared.PointerWords.{PointerWords}
 use Rattle.settings.specs.declared.Settings.{Settings}
@@ -36,8 +36,8 @@ below_listed σ m last buffer list = told_listed (row_listed σ m (state_of last
 -- "down, the soft list's first, row 0 of a start there from the start latch": the addresses of both, once neither is refused
 unfoldable pub above_listed : Settings → List ℕ → ℕ → List ℕ → List ℕ → BesideListed
 above_listed σ m latch buffer list =
-    if eqb (length buffer) 132
-    then (if eqb (length list) 12000
+    when eqb (length buffer) 132
+    then (when eqb (length list) 12000
     then above_with (row_above σ m latch buffer) (list_after m (start_from latch σ >>= row σ) list)
     else beside_with (Refused (refusal 0 (fault 25))) buffer list)
     else above_with (row_above σ m latch buffer) list
@@ -45,6 +45,6 @@ above_listed σ m latch buffer list =
 -- "positive up and negative down"
 unfoldable pub beside_listed : Settings → List ℕ → ℤ → PointerWords → ℕ → State → List ℕ → List ℕ → BesideListed
 beside_listed σ m shift soft latch last buffer list =
-    if lt_z (pos 0) shift then below_listed σ m last buffer list
-    else if lt_z shift (pos 0) then above_listed (with_top σ soft) m latch buffer list
+    when lt_z (pos 0) shift then below_listed σ m last buffer list
+    else when lt_z shift (pos 0) then above_listed (with_top σ soft) m latch buffer list
     else beside_with Absent buffer list

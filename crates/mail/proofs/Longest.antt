@@ -9,7 +9,7 @@ use native.Mathlib.Decide.{ℕ_discrete}
 use lib.ListN.{length, length-append}
 use lib.Dec.{eqb, leb}
 use borrow.Author.Tests.{eqb-true, eqb-false, leb-true}
-use Rattle.memory.specs.Word.{if◌then◌else◌}
+use Rattle.memory.specs.Word.{when◌then◌else◌}
 use Rattle.settings.specs.declared.Settings.{Settings}
 use Rattle.settings.specs.Good.{good}
 use Rattle.mail.specs.Mail.{marks_of, character_of, text_cell, sequence, change, cells_text, row_text, shown_cells, mail_text}
@@ -32,7 +32,7 @@ bounded zero = (omega arith, omega arith)
 bounded (suc m) = let h = bounded m in (omega arith, omega arith)
 
 abbrev longest : ℕ → ℕ
-longest marks = if eqb marks 15 then 12 else 10
+longest marks = when eqb marks 15 then 12 else 10
 
 sequence-length : (marks : ℕ) → marks < 16 → length (sequence marks) ≤ longest marks
 unfolding sequence

@@ -10,7 +10,7 @@ use lib.ListN.{length, get_or, take, drop, drop_of_length-le, get_or-map}
 use lib.Seq.{drop-cons, get_or-take}
 use lib.Dec.{eqb}
 use borrow.Author.Tests.{leb-true}
-use Rattle.memory.specs.Word.{if◌then◌else◌}
+use Rattle.memory.specs.Word.{when◌then◌else◌}
 use Rattle.memory.proofs.ReadBounds.{if-cases, both}
 use Rattle.codes.specs.Attribute.{code_of, attribute_of}
 use Rattle.mail.specs.Mail.{is_character, character_for, marks_for, marked, character_of, marks_of, text_cell, sequence, change, row_end, cells_text}
@@ -35,7 +35,7 @@ unfolding text_cell
 text-marks cell = (parts (character_for (code_of cell)) (marks_for (attribute_of cell)) (character-small (code_of cell))).1
 
 abbrev mark : ℕ → ℕ → List ℕ
-mark bit digit = if eqb bit 1 then 0x3b ∷ digit ∷ [] else []
+mark bit digit = when eqb bit 1 then 0x3b ∷ digit ∷ [] else []
 
 -- a sequence after other bytes, piece by piece
 pub pieces : (out : List ℕ) (marks : ℕ)

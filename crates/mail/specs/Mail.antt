@@ -1,6 +1,6 @@
 -- Document 02, §12: "Write each accepted row's shown columns as terminal text with ECMA-48 marks". The text of a row.
 use Rattle.std.specs.Prelude.{ℕ, ◌+◌, ◌*◌, ◌/◌, ◌%◌, ◌^◌, Bool, ◌&&◌, List, [], ◌∷◌, ◌++◌, map, take, leb, eqb}
-use Rattle.memory.specs.Word.{if◌then◌else◌, bit}
+use Rattle.memory.specs.Word.{when◌then◌else◌, bit}
 use Rattle.codes.specs.Attribute.{code_of, attribute_of}
 use Rattle.settings.specs.declared.Settings.{Settings}
 use Rattle.settings.specs.Good.{shown_columns}
@@ -10,7 +10,7 @@ abbrev pub is_character : ℕ → Bool
 is_character code = leb 0x20 code && leb code 0x7e
 
 abbrev pub character_for : ℕ → ℕ
-character_for code = if is_character code then code else 0x3f
+character_for code = when is_character code then code else 0x3f
 
 -- the marks of an attribute, a number of four bits: 0 highlight, 1 underline, 2 blink, 3 reverse, of "attribute bits 6, 1, 0 and 5"
 abbrev pub marks_for : ℕ → ℕ
@@ -31,7 +31,7 @@ text_cell cell = marked (character_for (code_of cell)) (marks_for (attribute_of 
 
 -- "1 highlight, 4 underline, 5 blink and 7 reverse": the parameter of the mark in bit k, where it holds, after its `;`
 abbrev pub parameter : ℕ → ℕ → ℕ → List ℕ
-parameter k digit marks = if bit k marks then 0x3b ∷ digit ∷ [] else []
+parameter k digit marks = when bit k marks then 0x3b ∷ digit ∷ [] else []
 
 -- "a fresh 0 and those .. that hold, rising, in one sequence with `;` between"
 unfoldable pub sequence : ℕ → List ℕ
@@ -42,7 +42,7 @@ sequence marks =
 
 -- "before a cell whose marks differ from the cell before"
 abbrev pub change : ℕ → ℕ → List ℕ
-change before marks = if eqb marks before then [] else sequence marks
+change before marks = when eqb marks before then [] else sequence marks
 
 -- "`ESC [ 0 m` first on every row (1B 5B 30 6D)"; "A row ends in `ESC [ 0 m` and a line feed."
 abbrev pub row_start : List ℕ

@@ -1,6 +1,6 @@
 -- Document 02, §12: the writer call. "Refusals: 1 and 2; .. then 23, buffer too short, untouched. Places past what is written stay."
 use Rattle.std.specs.Prelude.{ℕ, ◌≤◌, List, ◌++◌, length, drop, leb, eqb}
-use Rattle.memory.specs.Word.{if◌then◌else◌}
+use Rattle.memory.specs.Word.{when◌then◌else◌}
 use Rattle.memory.specs.Reading.{fault, refusal}
 use Rattle.settings.specs.declared.Settings.{Settings}
 use Rattle.settings.specs.Good.{good}
@@ -27,13 +27,13 @@ onto new buffer = new ++ drop (length new) buffer
 -- 23: "buffer too short, untouched"
 abbrev pub lending : List ℕ → List ℕ → Mailed
 lending text buffer =
-    if leb (length text) (length buffer) then mailed (Text (length text)) (onto text buffer) else mailed (refuse 23) buffer
+    when leb (length text) (length buffer) then mailed (Text (length text)) (onto text buffer) else mailed (refuse 23) buffer
 
 -- 1, a row of another number of cells than 132; 2, settings not good; 23
 unfoldable pub write_mail : Settings → List ℕ → List ℕ → Mailed
 write_mail σ cells buffer =
-    if eqb (length cells) 132
-    then (if good σ then lending (mail_text σ cells) buffer else mailed (refuse 2) buffer)
+    when eqb (length cells) 132
+    then (when good σ then lending (mail_text σ cells) buffer else mailed (refuse 2) buffer)
     else mailed (refuse 1) buffer
 
 -- the longest text that a row can have (`Longest.text-length`), so that a console knows what to lend

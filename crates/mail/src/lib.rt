@@ -1,7 +1,7 @@
 #![tactic(auto)]
 // A row as terminal text with ECMA-48 marks: the writer.
 ghost use Rattle.std.specs.Prelude.{◌≡◌, ◌∷◌, [], ◌++◌, map, ◌+◌, ◌≤◌, ◌<◌, length, take};
-ghost use Rattle.memory.specs.Word.{if◌then◌else◌};
+ghost use Rattle.memory.specs.Word.{when◌then◌else◌};
 ghost use Rattle.codes.specs.Attribute.{code_of, attribute_of};
 ghost use Rattle.mail.specs.Mail.{is_character, character_for, marks_for, text_cell, character_of, marks_of, sequence, change, row_end, row_text};
 ghost use Rattle.mail.specs.Write.{mailed, refuse, write_mail, FewBytes};
@@ -118,7 +118,7 @@ fn put_sequence(out: &mut [u8], at: usize, marks: u8) -> usize
 // `text` after the first `at` bytes of `out`, where `test` holds.
 fn put_if(test: bool, out: &mut [u8], at: usize, text: &[u8]) -> usize
     requires { at + length text.now ≤ length out.old }
-    ensures { (result ≤ at + length text.now) × (take result out.new ≡ take at out.old ++ (if test then text.now else [])) }
+    ensures { (result ≤ at + length text.now) × (take result out.new ≡ take at out.old ++ (when test then text.now else [])) }
 {
     if test { put(out, at, text) } else { at }
 }

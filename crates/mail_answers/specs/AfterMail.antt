@@ -1,6 +1,6 @@
 -- What a call on a row's text leaves in the slices that it was lent, and its status: 0 where it is accepted, else the refusal's number.
 use Rattle.std.specs.Prelude.{ℕ, List, [], ◌∷◌, eqb}
-use Rattle.memory.specs.Word.{if◌then◌else◌}
+use Rattle.memory.specs.Word.{when◌then◌else◌}
 use Rattle.mail.specs.declared.Written.{Written}
 use Rattle.mail.specs.declared.Written.TheVariants as Write
 use Rattle.mail.specs.Write.{Mailed}
@@ -27,7 +27,7 @@ after_write answer m = write_numbers answer m.buffer m.answer
 -- the reader: the count of cells, or the offset that refusal 24 tells. 23 writes nothing
 abbrev pub read_numbers : List ℕ → List ℕ → ReadAnswer → Lent
 read_numbers answer buffer (Back.Read n) = lent 0 buffer (n ∷ [])
-read_numbers answer buffer (Back.Refused r) = lent r.number buffer (if eqb r.number 24 then r.address ∷ [] else answer)
+read_numbers answer buffer (Back.Refused r) = lent r.number buffer (when eqb r.number 24 then r.address ∷ [] else answer)
 
 abbrev pub after_read : List ℕ → ReadBack → Lent
 after_read answer m = read_numbers answer m.buffer m.answer

@@ -1,7 +1,7 @@
 #![tactic(auto)]
 // The writer and the reader of a row's text, with their answers as a number in a lent slice.
 ghost use Rattle.std.specs.Prelude.{◌≡◌, ◌∷◌, [], eqb, length};
-ghost use Rattle.memory.specs.Word.{if◌then◌else◌};
+ghost use Rattle.memory.specs.Word.{when◌then◌else◌};
 ghost use Rattle.mail.specs.Write.{write_mail};
 ghost use Rattle.mail_reader.specs.Read.{read_mail};
 ghost use Rattle.mail_answers.specs.AfterMail.{lent, after_write, after_read};
@@ -45,7 +45,7 @@ pub fn read(text: &[u8], cells: &mut [u16], answer: &mut [u32]) -> u8
 // The offset of refusal 24.
 fn tell_offset(refusal: Refusal, answer: &mut [u32])
     requires { length answer.old ≡ 1 }
-    ensures { answer.new ≡ (if eqb refusal.number 24 then refusal.address ∷ [] else answer.old) }
+    ensures { answer.new ≡ (when eqb refusal.number 24 then refusal.address ∷ [] else answer.old) }
 {
     if refusal.number == 24 {
         tell(refusal.address, answer);

@@ -1,7 +1,7 @@
 -- Document 02, §12: the reader call. "24, text not of this form, with the offset of the first byte that no such text can have there after
 -- the bytes before it, or its length; then 23, buffer too short, untouched. Places past what is written stay."
 use Rattle.std.specs.Prelude.{ℕ, ◌≤◌, List, length, leb}
-use Rattle.memory.specs.Word.{if◌then◌else◌}
+use Rattle.memory.specs.Word.{when◌then◌else◌}
 use Rattle.memory.specs.declared.Fault.{Fault}
 use Rattle.memory.specs.Reading.{fault, refusal}
 use Rattle.mail.specs.Write.{onto}
@@ -23,7 +23,7 @@ not_of_this_form offset = record { number = 24; address = offset; from = 0 }
 
 abbrev pub answered : List ℕ → Outcome → ReadBack
 answered buffer (row cells) =
-    if leb (length cells) (length buffer)
+    when leb (length cells) (length buffer)
     then read_back (Read (length cells)) (onto cells buffer)
     else read_back (Refused (refusal 0 (fault 23))) buffer
 answered buffer (stops offset) = read_back (Refused (refusal 0 (not_of_this_form offset))) buffer

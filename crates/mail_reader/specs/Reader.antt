@@ -1,7 +1,7 @@
 -- Document 02, §12: the reader of a row's text. "Read back, it gives each cell's character, or `?`, and four marks; the reader takes one
 -- row, of 1 to 132 cells, and refuses anything the writer could not have written".
 use Rattle.std.specs.Prelude.{ℕ, zero, suc, ◌+◌, max, ◌&&◌, List, [], ◌∷◌, ◌++◌, length, get_or, drop, eqb}
-use Rattle.memory.specs.Word.{if◌then◌else◌}
+use Rattle.memory.specs.Word.{when◌then◌else◌}
 use Rattle.mail.specs.Mail.{is_character, marked, marks_of, change, row_start, row_end}
 use Rattle.mail_reader.specs.declared.Next.{Next}
 use Rattle.mail_reader.specs.declared.Next.TheVariants.{Cell, Stops}
@@ -10,13 +10,13 @@ use Rattle.mail_reader.specs.declared.Next.TheVariants.{Cell, Stops}
 unfoldable pub common : List ℕ → List ℕ → ℕ
 common [] t = 0
 common (a ∷ s) [] = 0
-common (a ∷ s) (b ∷ t) = if eqb a b then suc (common s t) else 0
+common (a ∷ s) (b ∷ t) = when eqb a b then suc (common s t) else 0
 
 -- a cell with these marks next: its change of marks and a character; or how far the text is like that
 unfoldable pub tried : ℕ → ℕ → List ℕ → Next
 tried before marks t =
     let n : ℕ = length (change before marks) in
-    if eqb (common (change before marks) t) n && is_character (get_or t n 0)
+    when eqb (common (change before marks) t) n && is_character (get_or t n 0)
     then Cell (marked (get_or t n 0) marks) (n + 1)
     else Stops (common (change before marks) t)
 
@@ -44,8 +44,8 @@ joined cs n (stops i) = stops (n + i)
 -- no cell comes next, though i bytes are like one: a row "of 1 to 132 cells" ends here, and with it the text
 abbrev pub ended : ℕ → ℕ → List ℕ → Outcome
 ended count i t =
-    if eqb count 0 then stops i
-    else (if eqb (common row_end t) 5 && eqb (length t) 5 then row [] else stops (max i (common row_end t)))
+    when eqb count 0 then stops i
+    else (when eqb (common row_end t) 5 && eqb (length t) 5 then row [] else stops (max i (common row_end t)))
 
 -- the next cell, and what comes after it
 abbrev pub turn : (ℕ → List ℕ → Outcome) → ℕ → List ℕ → Next → Outcome
@@ -60,4 +60,4 @@ cells_read (suc left) count before t = turn (cells_read left (suc count)) count 
 -- a whole text
 unfoldable pub read_row : List ℕ → Outcome
 read_row t =
-    if eqb (common row_start t) 4 then joined [] 4 (cells_read 132 0 0 (drop 4 t)) else stops (common row_start t)
+    when eqb (common row_start t) 4 then joined [] 4 (cells_read 132 0 0 (drop 4 t)) else stops (common row_start t)

@@ -8,7 +8,7 @@ use native.Mathlib.Decide.{ℕ_discrete, dec_le}
 use lib.ListN.{length, drop, length-append, drop_of_length-le}
 use lib.Dec.{eqb}
 use borrow.Author.Tests.{eqb-true, eqb-false}
-use Rattle.memory.specs.Word.{if◌then◌else◌}
+use Rattle.memory.specs.Word.{when◌then◌else◌}
 use Rattle.memory.proofs.ReadBounds.{if-cases, both}
 use Rattle.mail.specs.Mail.{marked, character_of, marks_of, change, row_end, cells_text}
 use Rattle.mail.specs.Texts.{Each, IsCell}
@@ -85,7 +85,7 @@ module _ (left count before i : ℕ) (t : List ℕ) (possible : 1 ≤ left + cou
   ends = if-cases (CellsRead left count before t) (eqb count 0) (λ e. first_cell (eqb-true count 0 e)) (λ e. other (eqb-false count 0 e))
     where
       other : (count ≡ 0 → ⊥)
-          → CellsRead left count before t (if eqb (common row_end t) 5 && eqb (length t) 5 then row [] else stops (max i (common row_end t)))
+          → CellsRead left count before t (when eqb (common row_end t) 5 && eqb (length t) 5 then row [] else stops (max i (common row_end t)))
       other f =
           if-cases (CellsRead left count before t) (eqb (common row_end t) 5 && eqb (length t) 5) (λ e. whole-end (omega arith) e)
           (λ _. no-end-yet (omega arith))

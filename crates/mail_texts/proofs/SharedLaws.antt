@@ -7,7 +7,7 @@ use native.Mathlib.Omega.{arith}
 use lib.ListN.{length, take, drop, take-append-drop}
 use lib.Dec.{eqb}
 use borrow.Author.Tests.{eqb-true, eq-eqb, ne_eqb}
-use Rattle.memory.specs.Word.{if◌then◌else◌}
+use Rattle.memory.specs.Word.{when◌then◌else◌}
 use Rattle.mail_reader.specs.Reader.{common}
 use Rattle.mail_texts.specs.Shared.{Begins}
 
@@ -26,7 +26,7 @@ one_more : (a b : ℕ) (s t : List ℕ) (n : ℕ) → suc n ≤ common (a ∷ s)
 unfolding common
 one_more a b s t n h = by (eqb a b) refl h
   where
-    by : (same : Bool) → eqb a b ≡ same → suc n ≤ (if same then suc (common s t) else 0) → (a ≡ b) × (n ≤ common s t)
+    by : (same : Bool) → eqb a b ≡ same → suc n ≤ (when same then suc (common s t) else 0) → (a ≡ b) × (n ≤ common s t)
     by true e l = (eqb-true a b e, omega arith)
     by false e l = absurd (omega arith)
 
@@ -54,8 +54,8 @@ common-after [] x t l = absurd (omega arith)
 common-after (a ∷ s) x [] l = refl
 common-after (a ∷ s) x (b ∷ t) l = by (eqb a b) (λ h. common-after s x t h) l
   where
-    by : (same : Bool) → (common s t < length s → common (s ++ x) t ≡ common s t) → (if same then suc (common s t) else 0) < suc (length s)
-        → (if same then suc (common (s ++ x) t) else 0) ≡ (if same then suc (common s t) else 0)
+    by : (same : Bool) → (common s t < length s → common (s ++ x) t ≡ common s t) → (when same then suc (common s t) else 0) < suc (length s)
+        → (when same then suc (common (s ++ x) t) else 0) ≡ (when same then suc (common s t) else 0)
     by true f k = ap suc (f (omega arith))
     by false f k = refl
 
@@ -65,7 +65,7 @@ common-grows [] x t = omega arith
 common-grows (a ∷ s) x [] = omega arith
 common-grows (a ∷ s) x (b ∷ t) = by (eqb a b) (common-grows s x t)
   where
-    by : (same : Bool) → common s t ≤ common (s ++ x) t → (if same then suc (common s t) else 0) ≤ (if same then suc (common (s ++ x) t) else 0)
+    by : (same : Bool) → common s t ≤ common (s ++ x) t → (when same then suc (common s t) else 0) ≤ (when same then suc (common (s ++ x) t) else 0)
     by true k = omega arith
     by false k = omega arith
 
@@ -77,7 +77,7 @@ take-common (a ∷ w) [] = refl
 take-common (a ∷ w) (b ∷ t) = by (eqb a b) refl (take-common w t)
   where
     by : (same : Bool) → eqb a b ≡ same → take (common w t) t ≡ take (common w t) w
-        → take (if same then suc (common w t) else 0) (b ∷ t) ≡ take (if same then suc (common w t) else 0) (a ∷ w)
+        → take (when same then suc (common w t) else 0) (b ∷ t) ≡ take (when same then suc (common w t) else 0) (a ∷ w)
     by true e k = rw (k, eqb-true a b e)
     by false e k = refl
 

@@ -7,7 +7,7 @@ use native.Mathlib.Omega.{arith}
 use lib.ListN.{drop}
 use lib.Dec.{eqb}
 use borrow.Author.Tests.{eqb-true, ne_eqb}
-use Rattle.memory.specs.Word.{if◌then◌else◌}
+use Rattle.memory.specs.Word.{when◌then◌else◌}
 use Rattle.mail.specs.Mail.{is_character, sequence, change, row_end}
 use Rattle.mail.proofs.Below.{below}
 use Rattle.mail.proofs.TextLaws.{character-range}
@@ -23,11 +23,11 @@ parsed m t = record { marks = m; rest = t }
 -- a parameter, where it stands next
 digit-next : ℕ → ℕ → ℕ → ℕ → List ℕ → Parsed
 digit-next digit weight m s [] = parsed m (s ∷ [])
-digit-next digit weight m s (d ∷ t) = if eqb d digit then parsed (m + weight) t else parsed m (s ∷ d ∷ t)
+digit-next digit weight m s (d ∷ t) = when eqb d digit then parsed (m + weight) t else parsed m (s ∷ d ∷ t)
 
 mark-next : ℕ → ℕ → ℕ → List ℕ → Parsed
 mark-next digit weight m [] = parsed m []
-mark-next digit weight m (s ∷ t) = if eqb s 0x3b then digit-next digit weight m s t else parsed m (s ∷ t)
+mark-next digit weight m (s ∷ t) = when eqb s 0x3b then digit-next digit weight m s t else parsed m (s ∷ t)
 
 then-mark : ℕ → ℕ → Parsed → Parsed
 then-mark digit weight p = mark-next digit weight p.marks p.rest
@@ -46,7 +46,7 @@ parse-sequence t marks h =
 -- the marks that a text begins with, after a cell with the marks `before`
 lead : ℕ → List ℕ → Parsed
 lead before [] = parsed before []
-lead before (s ∷ t) = if eqb s 0x1b then parse (s ∷ t) else parsed before (s ∷ t)
+lead before (s ∷ t) = when eqb s 0x1b then parse (s ∷ t) else parsed before (s ∷ t)
 
 lead-sequence : (before marks : ℕ) (t : List ℕ) → marks < 16 → lead before (sequence marks ++ t) ≡ parsed marks t
 unfolding lead sequence

@@ -1,13 +1,13 @@
 -- Document 01, of the settings sheet: "how many of the 256 codes invoke an attribute".
 use Rattle.std.specs.Prelude.{ℕ, zero, suc, ◌+◌, ◌<◌, ◌≡◌, Bool}
-use Rattle.memory.specs.Word.{if◌then◌else◌}
+use Rattle.memory.specs.Word.{when◌then◌else◌}
 use Rattle.settings.specs.Timing.{invoking_codes}
 use Rattle.codes.specs.Attribute.{invokes}
 
 -- how many of the numbers below n pass a test
 unfoldable pub how_many : (ℕ → Bool) → ℕ → ℕ
 how_many test zero = 0
-how_many test (suc n) = (if test n then 1 else 0) + how_many test n
+how_many test (suc n) = (when test n then 1 else 0) + how_many test n
 
 -- the sheet's number is that of the codes that invoke, for every attribute flag
 abbrev pub CodesThatInvoke : Type 0

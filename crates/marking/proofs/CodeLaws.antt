@@ -6,7 +6,7 @@ use Prim.Native.Nat.{ℕ, zero, suc, ◌+◌, ◌-◌, ◌<◌, ◌≤◌, min}
 use native.Mathlib.Omega.{arith}
 use lib.Dec.{ltb}
 use borrow.Author.Tests.{lt-ltb, le-ltb}
-use Rattle.memory.specs.Word.{if◌then◌else◌, high, low}
+use Rattle.memory.specs.Word.{when◌then◌else◌, high, low}
 use Rattle.memory.specs.declared.Fault.{Fault}
 use Rattle.memory.specs.declared.Pointer.{Pointer}
 use Rattle.memory.specs.Reading.{Reading, done, refuse, ask, asking, each, ◌>>=◌}
@@ -128,7 +128,7 @@ module _ (m marks : List ℕ) (σ : CodeSettings) (p : Pen) (cs : List ℕ) wher
 
     -- a fill run by its word
     abbrev by_word : ℕ → Reading Drawing
-    by_word w = if latches w then done (filled fill end (drawing (taking σ.linear w p) cs)) else refuse (unlatched p.list.next)
+    by_word w = when latches w then done (filled fill end (drawing (taking σ.linear w p) cs)) else refuse (unlatched p.list.next)
 
     moved : (q : Pen) → q.column ≤ end → moved_to end q ≡ (filled fill end (drawing q cs)).pen
     unfolding filled put
@@ -163,7 +163,7 @@ module _ (m marks : List ℕ) (σ : CodeSettings) (p : Pen) (cs : List ℕ) wher
 
 -- ---- segments on a side ----
 each_chosen : {A B : Type 0} (f : A → B → Reading B) (x : A) (xs : List A) (y : B) (b : Bool)
-    → each f (if b then x ∷ xs else xs) y ≡ ((if b then f x y else done y) >>= each f xs)
+    → each f (when b then x ∷ xs else xs) y ≡ ((when b then f x y else done y) >>= each f xs)
 unfolding each ◌>>=◌
 each_chosen f x xs y true = refl
 each_chosen f x xs y false = refl
@@ -180,7 +180,7 @@ module _ (m marks : List ℕ) (f : Segment → Drawing → Reading Drawing) (p :
   after = segments_on side hidden (at + width hidden turn) (segments_past l count ws (i + 1))
 
   abbrev chosen : Drawing → Reading Drawing
-  chosen d = if on_side side at (width hidden turn) then f turn d else done d
+  chosen d = when on_side side at (width hidden turn) then f turn d else done d
 
   more : (d : Drawing) → i < count.number → each f here d ≡ (chosen d >>= each f after)
   unfolding segments_on

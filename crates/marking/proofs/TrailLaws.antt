@@ -6,7 +6,7 @@ use Prim.Native.Nat.{ℕ, zero, suc, ◌+◌, ◌-◌, ◌/◌, ◌<◌}
 use native.Mathlib.Omega.{arith}
 use lib.ListN.{length, drop}
 use lib.Dec.{ltb}
-use Rattle.memory.specs.Word.{if◌then◌else◌}
+use Rattle.memory.specs.Word.{when◌then◌else◌}
 use Rattle.memory.specs.declared.Fault.{Fault}
 use Rattle.memory.specs.declared.Pointer.{Pointer}
 use Rattle.memory.specs.Reading.{Role, Reading, done, refuse, ask, asking, in_role, read_as, absent, ◌>>=◌, Outcome, given, refused, run_from, run}
@@ -33,24 +33,24 @@ trail_then (passed marks) k = k marks
 -- the three tests of a word, in each of which the walk may end
 module _ {A : Type 0} (x y z : Fault) (marks : List ℕ) (w : ℕ) where
   tests-joined : (b₁ b₂ b₃ : Bool) (v : Walked A) (t : List ℕ → ℕ → Trail) (o : Outcome A) → v ≡ joined (t marks w) o
-      → (if b₁ then halted x else if b₂ then (if b₃ then halted y else v) else halted z)
-      ≡ joined (by_word (if b₁ then halted x else if b₂ then (if b₃ then halted y else went marks w) else halted z) t) (if b₂ then o else refused z)
+      → (when b₁ then halted x else when b₂ then (when b₃ then halted y else v) else halted z)
+      ≡ joined (by_word (when b₁ then halted x else when b₂ then (when b₃ then halted y else went marks w) else halted z) t) (when b₂ then o else refused z)
   tests-joined true b₂ b₃ v t o e = refl
   tests-joined false true true v t o e = refl
   tests-joined false true false v t o e = e
   tests-joined false false b₃ v t o e = refl
 
   tests-bind : (b₁ b₂ b₃ : Bool) (s t : List ℕ → ℕ → Trail) (o : Outcome A) (k : List ℕ → A → Trail) → s marks w ≡ trail_on (t marks w) o k
-      → by_word (if b₁ then halted x else if b₂ then (if b₃ then halted y else went marks w) else halted z) s
-      ≡ trail_on (by_word (if b₁ then halted x else if b₂ then (if b₃ then halted y else went marks w) else halted z) t) (if b₂ then o else refused z) k
+      → by_word (when b₁ then halted x else when b₂ then (when b₃ then halted y else went marks w) else halted z) s
+      ≡ trail_on (by_word (when b₁ then halted x else when b₂ then (when b₃ then halted y else went marks w) else halted z) t) (when b₂ then o else refused z) k
   tests-bind true b₂ b₃ s t o k e = refl
   tests-bind false true true s t o k e = refl
   tests-bind false true false s t o k e = e
   tests-bind false false b₃ s t o k e = refl
 
 tests_then : (x y z : Fault) (marks : List ℕ) (w : ℕ) (b₁ b₂ b₃ : Bool) (s t : List ℕ → ℕ → Trail) (k : List ℕ → Trail) → s marks w ≡ trail_then (t marks w) k
-    → by_word (if b₁ then halted x else if b₂ then (if b₃ then halted y else went marks w) else halted z) s
-    ≡ trail_then (by_word (if b₁ then halted x else if b₂ then (if b₃ then halted y else went marks w) else halted z) t) k
+    → by_word (when b₁ then halted x else when b₂ then (when b₃ then halted y else went marks w) else halted z) s
+    ≡ trail_then (by_word (when b₁ then halted x else when b₂ then (when b₃ then halted y else went marks w) else halted z) t) k
 tests_then x y z marks w true b₂ b₃ s t k e = refl
 tests_then x y z marks w false true true s t k e = refl
 tests_then x y z marks w false true false s t k e = e

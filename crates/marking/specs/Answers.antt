@@ -1,6 +1,6 @@
 -- What the functions of this crate give, with the marks that they leave, as what a walk gives: no rules of their own.
 use Rattle.std.specs.Prelude.{ℕ, zero, suc, ◌+◌, ◌%◌, ◌<◌, ◌≤◌, ◌≡◌, List, [], ◌∷◌, ltb}
-use Rattle.memory.specs.Word.{if◌then◌else◌}
+use Rattle.memory.specs.Word.{when◌then◌else◌}
 use Rattle.memory.specs.declared.Fault.{Fault}
 use Rattle.memory.specs.Reading.{Role, Other, Reading, done, refuse, ask}
 use Rattle.layout.specs.declared.OverlayHead.{OverlayHead}
@@ -49,7 +49,7 @@ role_at (r ∷ rs) (suc i) = role_at rs i
 
 -- the mark of word i where pointers stand before word `end`: their words are marked 1 and 2 in turn
 abbrev pub pointer_mark : (i end : ℕ) → ℕ
-pointer_mark i end = if ltb i end then i % 2 + 1 else 3
+pointer_mark i end = when ltb i end then i % 2 + 1 else 3
 
 -- the mark of word i of a block of a shape
 unfoldable pub mark_at : Shape → ℕ → ℕ

@@ -1,7 +1,7 @@
 // The cells of a row, walked: each code word, attribute word and fill word is marked as it is met. The walk goes from left to right as
 // drawing does, with the pen alone: no word that is read depends on the cells so far, nor on their source.
 ghost use Rattle.std.specs.Prelude.{◌≡◌, List, ℕ, ◌+◌, ◌*◌, ◌≤◌, min, length};
-ghost use Rattle.memory.specs.Word.{if◌then◌else◌};
+ghost use Rattle.memory.specs.Word.{when◌then◌else◌};
 ghost use Rattle.memory.specs.Reading.{done, each};
 ghost use Rattle.blocks.specs.RowBlock.{segments_of};
 ghost use Rattle.layout.specs.Layout.{over, segments_on};
@@ -174,7 +174,7 @@ fn walk_chosen(
 ) -> PenWalked
     requires { (length marks.old ≡ length mem.now) × (pen.column ≤ 2000000) }
     ensures up_to { UpTo (pen.column + 255) result }
-    ensures follows { (source : Source) → Follows result mem.now marks.old marks.new pen (λ d. if chosen then segment settings fill source g d else done d) }
+    ensures follows { (source : Source) → Follows result mem.now marks.old marks.new pen (λ d. when chosen then segment settings fill source g d else done d) }
 {
     if chosen {
         walk_segment(mem, marks, settings, fill, g, pen)

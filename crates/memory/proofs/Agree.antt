@@ -1,7 +1,7 @@
 -- A reading depends only on the words that it asked for: two memories of equal length that agree on the words read give
 -- the same outcome and the same addresses.
 use Rattle.std.proofs.Common.{◌≡◌, ℕ, ◌+◌, ◌/◌, Bool, true, false, ltb, List, [], ◌∷◌, length, get_or, refl, ap}
-use Rattle.memory.specs.Word.{if◌then◌else◌}
+use Rattle.memory.specs.Word.{when◌then◌else◌}
 use Rattle.memory.specs.Reading.{Reading, done, refuse, ask, absent, refused, run_from, asked}
 
 pub data All (P : ℕ → Type 0) : List ℕ → Type 0 where
@@ -16,8 +16,8 @@ module _ (m₁ m₂ : List ℕ) (len : length m₁ ≡ length m₂) where
   -- one turn, for any function f of the memory and the rest of the reading
   turn : {A B : Type 0} (b : Bool) (a : ℕ) (rest : ℕ → Reading A) (f : List ℕ → Reading A → B) (missing : B)
       → ((w : ℕ) → All (SameWord m₁ m₂) (asked m₁ (rest w)) → f m₁ (rest w) ≡ f m₂ (rest w))
-      → All (SameWord m₁ m₂) (a ∷ (if b then asked m₁ (rest (get_or m₁ (a / 2) 0)) else []))
-      → (if b then f m₁ (rest (get_or m₁ (a / 2) 0)) else missing) ≡ (if b then f m₂ (rest (get_or m₂ (a / 2) 0)) else missing)
+      → All (SameWord m₁ m₂) (a ∷ (when b then asked m₁ (rest (get_or m₁ (a / 2) 0)) else []))
+      → (when b then f m₁ (rest (get_or m₁ (a / 2) 0)) else missing) ≡ (when b then f m₂ (rest (get_or m₂ (a / 2) 0)) else missing)
   turn true a rest f missing same (also e h) = rw (← e) (same (get_or m₁ (a / 2) 0) h)
   turn false a rest f missing same h = refl
 

@@ -1,6 +1,6 @@
 -- What holds of a reading's result, where every word has 16 bits.
 use Rattle.std.proofs.Common.{◌≡◌, ℕ, ◌+◌, ◌/◌, ◌<◌, Bool, true, false, ltb, List, [], ◌∷◌, length, get_or, refl, subst, arith}
-use Rattle.memory.specs.Word.{if◌then◌else◌}
+use Rattle.memory.specs.Word.{when◌then◌else◌}
 use Rattle.memory.specs.declared.Fault.{Fault}
 use Rattle.memory.specs.declared.Pointer.{Pointer}
 use Rattle.memory.specs.Reading.{Ask, Reading, done, refuse, ask, ◌>>=◌, check_of, each, Outcome, given, refused, run_from}
@@ -24,7 +24,7 @@ check-gives n p true = dones refl
 check-gives n p false = refuses
 
 pub if-gives : {A : Type 0} {P : A → Type 0} (b : Bool) {p q : Reading A}
-    → (b ≡ true → Gives P p) → (b ≡ false → Gives P q) → Gives P (if b then p else q)
+    → (b ≡ true → Gives P p) → (b ≡ false → Gives P q) → Gives P (when b then p else q)
 if-gives {P} b h k = if-cases (Gives P) b h k
 
 -- one after the other, each keeping what holds

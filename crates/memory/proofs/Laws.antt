@@ -3,7 +3,7 @@ use Rattle.std.proofs.Common.{◌≡◌, ℕ, ◌+◌, ◌/◌, Bool, true, fals
 use Rattle.memory.specs.declared.Fetch.TheVariants.{Word, Absent}
 use Rattle.memory.specs.declared.Fault.{Fault}
 use Rattle.memory.specs.declared.Pointer.{Pointer}
-use Rattle.memory.specs.Word.{if◌then◌else◌}
+use Rattle.memory.specs.Word.{when◌then◌else◌}
 use Rattle.memory.specs.Reading.{Reading, done, refuse, ask, asking, blaming, fault, absent, missing, ◌>>=◌, check, check_of, nobody, each, fetch, Outcome, given, refused, run_from, run}
 
 -- go on from an outcome
@@ -12,7 +12,7 @@ next (given n a) k = k n a
 next (refused x) k = refused x
 
 if-next : {A B : Type 0} (b : Bool) (x y : Outcome A) (k : ℕ → A → Outcome B)
-    → (if b then next x k else next y k) ≡ next (if b then x else y) k
+    → (when b then next x k else next y k) ≡ next (when b then x else y) k
 if-next true x y k = refl
 if-next false x y k = refl
 
@@ -78,11 +78,11 @@ module _ {A : Type 0} (n : ℕ) (m : List ℕ) (i : ℕ) (b : Bool) (k : Unit {0
 
 -- what `word_at` says, of a reading that asks there
 if_word : {A : Type 0} (b : Bool) (v x : ℕ) (y : ℕ → Outcome A) (z : Outcome A)
-    → (if b then Word v else Absent) ≡ Word x → (if b then y v else z) ≡ y x
+    → (when b then Word v else Absent) ≡ Word x → (when b then y v else z) ≡ y x
 if_word true v x y z e = let q : v ≡ x = cc in rw q
 if_word false v x y z e = let q : true ≡ false = cc in cc
 
-if-absent : {A : Type 0} (b : Bool) (v : ℕ) (y z : Outcome A) → (if b then Word v else Absent) ≡ Absent → (if b then y else z) ≡ z
+if-absent : {A : Type 0} (b : Bool) (v : ℕ) (y z : Outcome A) → (when b then Word v else Absent) ≡ Absent → (when b then y else z) ≡ z
 if-absent true v y z e = cc
 if-absent false v y z e = refl
 
@@ -101,7 +101,7 @@ abbrev pub after : {A : Type 0} → ℕ → Outcome A → Outcome A
 after n (given i a) = given (n + i) a
 after n (refused x) = refused x
 
-if-after : {A : Type 0} (n : ℕ) (b : Bool) (x y : Outcome A) → (if b then after n x else after n y) ≡ after n (if b then x else y)
+if-after : {A : Type 0} (n : ℕ) (b : Bool) (x y : Outcome A) → (when b then after n x else after n y) ≡ after n (when b then x else y)
 if-after n true x y = refl
 if-after n false x y = refl
 
@@ -133,7 +133,7 @@ step_same n k m (refuse x) f g h = refl
 step_same {A} {B} n k m (ask r q) f g h =
     let w = get_or m (r.address / 2) 0 in
     let moved : n + 1 + k ≡ n + k + 1 = omega arith in
-    ap (λ (o : Outcome B). if ltb (r.address / 2) (length m) then o else refused (absent r))
+    ap (λ (o : Outcome B). when ltb (r.address / 2) (length m) then o else refused (absent r))
     (step_same (n + 1) k m (q w) f g h ∙ ap (λ (i : ℕ). run_from i m (q w >>= g)) moved)
 
 -- readings for a list: those for its front, then those for the rest

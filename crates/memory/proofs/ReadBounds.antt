@@ -1,7 +1,7 @@
 -- How many words a reading asks for at most, and what holds of its result, where every word has 16 bits.
 use Rattle.std.proofs.Common.{◌≡◌, ℕ, zero, suc, ◌+◌, ◌/◌, ◌<◌, ◌≤◌, Bool, true, false, ◌&&◌, ltb, List, [], ◌∷◌, length, get_or, refl, ap, subst, zero-le, le_refl, arith, lit<}
 use mathlib.Core.Bool.{and-eq-true_iff}
-use Rattle.memory.specs.Word.{if◌then◌else◌}
+use Rattle.memory.specs.Word.{when◌then◌else◌}
 use Rattle.memory.specs.Reading.{Ask, Reading, done, refuse, ask, ◌>>=◌, check, check_of, nobody, Outcome, given, refused, run_from, asked}
 use Rattle.memory.specs.declared.Fault.{Fault}
 use Rattle.memory.specs.declared.Pointer.{Pointer}
@@ -41,12 +41,12 @@ check-of-reads n p false = refuses
 pub check-reads : (n : ℕ) (b : Bool) → Reads (λ _. b ≡ true) 0 (check n b)
 check-reads n b = check-of-reads n nobody b
 
-pub if-cases : {A : Type 0} (P : A → Type 0) (b : Bool) {x y : A} → (b ≡ true → P x) → (b ≡ false → P y) → P (if b then x else y)
+pub if-cases : {A : Type 0} (P : A → Type 0) (b : Bool) {x y : A} → (b ≡ true → P x) → (b ≡ false → P y) → P (when b then x else y)
 if-cases P true h k = h refl
 if-cases P false h k = k refl
 
 pub if-reads : {A : Type 0} {P : A → Type 0} {n : ℕ} (b : Bool) {p q : Reading A}
-    → (b ≡ true → Reads P n p) → (b ≡ false → Reads P n q) → Reads P n (if b then p else q)
+    → (b ≡ true → Reads P n p) → (b ≡ false → Reads P n q) → Reads P n (when b then p else q)
 if-reads {P} {n} b h k = if-cases (Reads P n) b h k
 
 -- the two tests of a check

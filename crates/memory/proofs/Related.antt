@@ -1,7 +1,7 @@
 -- Readings that ask alike: the same addresses, whatever the words are, and at the end the same refusal or related results.
 use Rattle.std.proofs.Common.{ℕ, ◌+◌, ◌/◌, Bool, true, false, ltb, List, [], ◌∷◌, length, get_or}
 use Rattle.memory.specs.declared.Fault.{Fault}
-use Rattle.memory.specs.Word.{if◌then◌else◌}
+use Rattle.memory.specs.Word.{when◌then◌else◌}
 use Rattle.memory.specs.Reading.{Ask, Reading, done, refuse, ask, ◌>>=◌, each, Outcome, given, refused, run_from}
 
 pub data Rel {A B : Type 0} (R : A → B → Type 0) : Reading A → Reading B → Type 0 where
@@ -11,7 +11,7 @@ pub data Rel {A B : Type 0} (R : A → B → Type 0) : Reading A → Reading B �
 
 -- one test for both: of readings, or of what they carry
 pub if-rel : {A B : Type 0} (R : A → B → Type 0) (t : Bool) {a₁ a₂ : A} {b₁ b₂ : B} → R a₁ b₁ → R a₂ b₂
-    → R (if t then a₁ else a₂) (if t then b₁ else b₂)
+    → R (when t then a₁ else a₂) (when t then b₁ else b₂)
 if-rel R true h k = h
 if-rel R false h k = k
 

@@ -1,6 +1,6 @@
 -- What a word is read as changes nothing in what a reading comes to: its result or refusal, its count of words, the addresses asked for.
 use Rattle.std.proofs.Common.{◌≡◌, ℕ, ◌+◌, ◌/◌, ltb, List, [], ◌∷◌, length, get_or, refl, ap}
-use Rattle.memory.specs.Word.{if◌then◌else◌}
+use Rattle.memory.specs.Word.{when◌then◌else◌}
 use Rattle.memory.specs.Reading.{Role, Reading, done, refuse, ask, read_as, Outcome, refused, absent, run_from, asked}
 use Rattle.memory.proofs.ReadBounds.{Reads, dones, refuses, asks}
 
@@ -10,7 +10,7 @@ run-as n m [] p = refl
 run-as n m (r ∷ rs) (done a) = refl
 run-as n m (r ∷ rs) (refuse x) = refl
 run-as {A} n m (r ∷ rs) (ask q f) =
-    ap (λ (o : Outcome A). if ltb (q.address / 2) (length m) then o else refused (absent q)) (run-as (n + 1) m rs (f (get_or m (q.address / 2) 0)))
+    ap (λ (o : Outcome A). when ltb (q.address / 2) (length m) then o else refused (absent q)) (run-as (n + 1) m rs (f (get_or m (q.address / 2) 0)))
 
 pub asked-as : {A : Type 0} (m : List ℕ) (rs : List Role) (p : Reading A) → asked m (read_as rs p) ≡ asked m p
 unfolding asked read_as
@@ -18,7 +18,7 @@ asked-as m [] p = refl
 asked-as m (r ∷ rs) (done a) = refl
 asked-as m (r ∷ rs) (refuse x) = refl
 asked-as m (r ∷ rs) (ask q f) =
-    ap (λ (rest : List ℕ). q.address ∷ (if ltb (q.address / 2) (length m) then rest else [])) (asked-as m rs (f (get_or m (q.address / 2) 0)))
+    ap (λ (rest : List ℕ). q.address ∷ (when ltb (q.address / 2) (length m) then rest else [])) (asked-as m rs (f (get_or m (q.address / 2) 0)))
 
 -- nor in a bound on the words, or in what holds of the result
 pub as-reads : {A : Type 0} {P : A → Type 0} {n : ℕ} (rs : List Role) {p : Reading A} → Reads P n p → Reads P n (read_as rs p)

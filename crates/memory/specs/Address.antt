@@ -1,12 +1,12 @@
 -- Document 01, "Settings and memory": pointers, the next word, words one after the other. `linear` is the setting.
 use Rattle.std.specs.Prelude.{ℕ, zero, suc, ◌+◌, ◌*◌, ◌/◌, ◌%◌, Bool, true, false, ◌&&◌, List, [], ◌∷◌, ◌==◌, nat_lt}
 use Rattle.memory.specs.declared.Pointer.{Pointer}
-use Rattle.memory.specs.Word.{if◌then◌else◌}
+use Rattle.memory.specs.Word.{when◌then◌else◌}
 use Rattle.memory.specs.Reading.{Reading, done, word, ◌>>=◌}
 
 -- a pointer in use, to an address. 02: "the address where the pointer in use begins, 0 when a register held it", and "0 for a null one"
 abbrev pub to : (from : ℕ) → ℕ → Pointer
-to from a = record { address = a; from = if a == 0 then 0 else from }
+to from a = record { address = a; from = when a == 0 then 0 else from }
 
 -- a null one
 abbrev pub nothing : Pointer

@@ -6,7 +6,7 @@ use Rattle.memory.specs.declared.Fetch.TheVariants.{Word, Absent}
 use Rattle.memory.specs.declared.Fault.{Fault}
 use Rattle.memory.specs.declared.Pointer.{Pointer}
 use Rattle.memory.specs.declared.Refusal.{Refusal}
-use Rattle.memory.specs.Word.{if◌then◌else◌}
+use Rattle.memory.specs.Word.{when◌then◌else◌}
 
 -- what a word is read as: 02 tells a pointer's first word and its second from "anything but that word of a pointer"
 pub data Role : Type 0 where
@@ -83,7 +83,7 @@ each f (x ∷ xs) b = f x b >>= each f xs
 
 -- "Memory is a lent slice of 16-bit words; the word at byte address a is number a/2." An absent word is refusal 7 (`run_from`).
 abbrev pub fetch : List ℕ → ℕ → Fetch
-fetch m a = if nat_lt (a / 2) (length m) then Word (slice_index m (a / 2)) else Absent
+fetch m a = when nat_lt (a / 2) (length m) then Word (slice_index m (a / 2)) else Absent
 
 -- what a reading comes to: "The word count is every word read"; a refusal has a number and an address
 pub data Outcome (A : Type 0) : Type 0 where
@@ -102,7 +102,7 @@ missing p = absent (asking p)
 unfoldable pub run_from : {A : Type 0} → ℕ → List ℕ → Reading A → Outcome A
 run_from n m (done a) = given n a
 run_from n m (refuse x) = refused x
-run_from n m (ask q f) = if nat_lt (q.address / 2) (length m) then run_from (n + 1) m (f (slice_index m (q.address / 2))) else refused (absent q)
+run_from n m (ask q f) = when nat_lt (q.address / 2) (length m) then run_from (n + 1) m (f (slice_index m (q.address / 2))) else refused (absent q)
 
 abbrev pub run : {A : Type 0} → List ℕ → Reading A → Outcome A
 run m p = run_from 0 m p
@@ -111,11 +111,11 @@ run m p = run_from 0 m p
 unfoldable pub asked : {A : Type 0} → List ℕ → Reading A → List ℕ
 asked m (done a) = []
 asked m (refuse x) = []
-asked m (ask q f) = q.address ∷ (if ltb (q.address / 2) (length m) then asked m (f (slice_index m (q.address / 2))) else [])
+asked m (ask q f) = q.address ∷ (when ltb (q.address / 2) (length m) then asked m (f (slice_index m (q.address / 2))) else [])
 
 -- 02, of where the pointer in use begins: told "for refusal 7 only; other refusals hold 0 there"
 abbrev pub from_told : Fault → ℕ
-from_told x = if x.number == 7 then x.from else 0
+from_told x = when x.number == 7 then x.from else 0
 
 -- what a call tells: a refusal's number and addresses with the row, which "is 0 at the start, else the state's"
 abbrev pub refusal : ℕ → Fault → Refusal

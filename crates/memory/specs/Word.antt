@@ -1,10 +1,10 @@
 -- Parts of a 16-bit word, and the choice by a test that the rules use.
 use Rattle.std.specs.Prelude.{ℕ, ◌/◌, ◌%◌, ◌^◌, Bool, true, false, List, ◌==◌, slice_index}
 
-infix 0 if◌then◌else◌
-abbrev pub if◌then◌else◌ : {A : Type 0} → Bool → A → A → A
-if true then a else b = a
-if false then a else b = b
+infix 0 when◌then◌else◌
+abbrev pub when◌then◌else◌ : {A : Type 0} → Bool → A → A → A
+when true then a else b = a
+when false then a else b = b
 
 -- bit n, counted from 0
 abbrev pub bit : ℕ → ℕ → Bool

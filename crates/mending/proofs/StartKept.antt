@@ -9,7 +9,7 @@ use lib.ListN.{length, get_or, set, length-set}
 use lib.Dec.{ltb}
 use Rattle.memory.specs.declared.Fault.{Fault}
 use Rattle.memory.specs.declared.Pointer.{Pointer}
-use Rattle.memory.specs.Word.{if◌then◌else◌, bit, at}
+use Rattle.memory.specs.Word.{when◌then◌else◌, bit, at}
 use Rattle.memory.specs.Reading.{Reading, done, missing, read_as, one_pointer, ◌>>=◌, ◌>>◌, fault, check, Outcome, given, refused, run_from, run}
 use Rattle.memory.specs.Address.{null, next_word, onward, words}
 use Rattle.memory.proofs.Laws.{bind-given, bind-refused, check-passed, check-failed, run-done}
@@ -87,7 +87,7 @@ module _ (m m₁ : List ℕ) (less : Less m m₁) where
       rw less.size
       (there (ltb (p.address / 2) (length m)) (missing p) _ _ (word-follows (n + 1) _ _ (words linear k (onward linear p)) (less.falls (p.address / 2)) (words-follow linear k (onward linear p) (n + 1))))
     where
-      there : (t : Bool) (x : Fault) (o o₁ : Outcome (List ℕ)) → Follows o o₁ → Follows (if t then o else refused x) (if t then o₁ else refused x)
+      there : (t : Bool) (x : Fault) (o o₁ : Outcome (List ℕ)) → Follows o o₁ → Follows (when t then o else refused x) (when t then o₁ else refused x)
       there true x o o₁ h = h
       there false x o o₁ h = missed
 

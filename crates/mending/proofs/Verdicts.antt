@@ -8,7 +8,7 @@ use Prim.Native.Nat.{ℕ, zero, suc}
 use lib.Dec.{eqb}
 use Rattle.memory.specs.declared.Fault.{Fault}
 use Rattle.memory.specs.declared.Refusal.{Refusal}
-use Rattle.memory.specs.Word.{if◌then◌else◌}
+use Rattle.memory.specs.Word.{when◌then◌else◌}
 use Rattle.memory.specs.Reading.{Outcome, given, refused, refusal, run}
 use Rattle.settings.specs.declared.Settings.{Settings}
 use Rattle.blocks.specs.declared.MainBlock.{MainBlock}
@@ -45,7 +45,7 @@ module _ (σ : Settings) (m : List ℕ) where
   refused-same : (led : Place) (number : ℕ) (x : Fault) → SameAs (refused_row led number x) (some (refusal number x))
   refused-same led number x = by (mendable x.number)
     where
-      by : (t : Bool) → SameAs (if t then Blamed (blamed led x) x.number else Refused (refusal number x)) (some (refusal number x))
+      by : (t : Bool) → SameAs (when t then Blamed (blamed led x) x.number else Refused (refusal number x)) (some (refusal number x))
       by true = same-blamed refl (row_from led number x)
       by false = same-refused
 
@@ -69,7 +69,7 @@ module _ (σ : Settings) (m : List ℕ) where
       rw (blank-call p.state) (by-line (eqb p.state.fields.left 0) _ _ (row_same n _ p (rows_same n) (run m (row σ p.state))))
     where
       by-line : (t : Bool) (v : Verdict) (s : Stepped) → SameAs v (by_step (within n σ m) p s).refusal
-          → SameAs (if t then Whole else v) (by_step (within n σ m) p (if t then stepped (Ended p.state.fields.row p.words) blank else s)).refusal
+          → SameAs (when t then Whole else v) (by_step (within n σ m) p (when t then stepped (Ended p.state.fields.row p.words) blank else s)).refusal
       by-line true v s h = same_whole
       by-line false v s h = h
 

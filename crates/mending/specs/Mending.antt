@@ -1,6 +1,6 @@
 -- Document 02, "Mending damaged lists": "draws, and at each refusal sets one pointer's words to 0 and starts again from the same latch".
 use Rattle.std.specs.Prelude.{ℕ, zero, suc, ◌+◌, ◌/◌, Bool, List, [], ◌∷◌, set, eqb}
-use Rattle.memory.specs.Word.{if◌then◌else◌}
+use Rattle.memory.specs.Word.{when◌then◌else◌}
 use Rattle.memory.specs.declared.Refusal.{Refusal}
 use Rattle.memory.specs.Address.{next_word}
 use Rattle.settings.specs.declared.Settings.{Settings}
@@ -96,7 +96,7 @@ mended_within (suc n) latch σ m = by_step (mended_within n latch) σ (mend_step
 
 -- how many words are not 0
 abbrev pub one : ℕ → ℕ
-one w = if eqb w 0 then 0 else 1
+one w = when eqb w 0 then 0 else 1
 
 unfoldable pub nonzero : List ℕ → ℕ
 nonzero [] = 0

@@ -8,7 +8,7 @@ use native.Mathlib.Numerals.{add-one}
 use lib.ListN.{length, get_or, set}
 use lib.Seq.{sets}
 use lib.Dec.{ltb}
-use Rattle.memory.specs.Word.{if◌then◌else◌}
+use Rattle.memory.specs.Word.{when◌then◌else◌}
 use Rattle.memory.specs.declared.Fetch.TheVariants.{Word, Absent}
 use Rattle.memory.specs.declared.Fault.{Fault}
 use Rattle.memory.specs.declared.Pointer.{Pointer}
@@ -31,7 +31,7 @@ noting-outcome n m l (ask q f) =
     turn (ltb (q.address / 2) (length m)) q l _ _ (noting-outcome (n + 1) m (set l n q.address) (f (get_or m (q.address / 2) 0)))
   where
     turn : {A : Type 0} (b : Bool) (q : Ask) (l : List ℕ) (x : Noted A) (o : Outcome A) → x.outcome ≡ o
-        → (if b then x else noted (refused (absent q)) l).outcome ≡ (if b then o else refused (absent q))
+        → (when b then x else noted (refused (absent q)) l).outcome ≡ (when b then o else refused (absent q))
     turn true q l x o e = e
     turn false q l x o e = refl
 
@@ -49,8 +49,8 @@ noting-asked n m l (ask q f) e =
     turn (ltb (q.address / 2) (length m)) q n l (asked m (f (get_or m (q.address / 2) 0))) (λ e₁. noting-asked (n + 1) m (set l n q.address) (f (get_or m (q.address / 2) 0)) e₁) e
   where
     turn : {A : Type 0} (b : Bool) (q : Ask) (n : ℕ) (l xs : List ℕ) {x : Noted A} {k : ℕ} {a : A} {l₁ : List ℕ}
-        → (x ≡ noted (given k a) l₁ → l₁ ≡ sets (set l n q.address) (n + 1) xs) → (if b then x else noted (refused (absent q)) l) ≡ noted (given k a) l₁
-        → l₁ ≡ sets l n (q.address ∷ (if b then xs else []))
+        → (x ≡ noted (given k a) l₁ → l₁ ≡ sets (set l n q.address) (n + 1) xs) → (when b then x else noted (refused (absent q)) l) ≡ noted (given k a) l₁
+        → l₁ ≡ sets l n (q.address ∷ (when b then xs else []))
     turn true q n l xs rest e = rest e ∙ ap (λ (i : ℕ). sets (set l n q.address) i xs) (add-one n)
     turn false q n l xs rest e = absurd (not-refused (absent q) l e)
 
@@ -69,8 +69,8 @@ noting-bind n m l (ask q g) f e =
     turn (ltb (q.address / 2) (length m)) q l (λ e₁. noting-bind (n + 1) m (set l n q.address) (g (get_or m (q.address / 2) 0)) f e₁) e
   where
     turn : {A B : Type 0} (b : Bool) (q : Ask) (l : List ℕ) {x : Noted A} {y z : Noted B} {k : ℕ} {a : A} {l₁ : List ℕ}
-        → (x ≡ noted (given k a) l₁ → y ≡ z) → (if b then x else noted (refused (absent q)) l) ≡ noted (given k a) l₁
-        → (if b then y else noted (refused (absent q)) l) ≡ z
+        → (x ≡ noted (given k a) l₁ → y ≡ z) → (when b then x else noted (refused (absent q)) l) ≡ noted (given k a) l₁
+        → (when b then y else noted (refused (absent q)) l) ≡ z
     turn true q l rest e = rest e
     turn false q l rest e = absurd (not-refused (absent q) l e)
 
@@ -81,7 +81,7 @@ unfolding noting ◌>>=◌
 noting-word n m l p f {w} e =
     turn (ltb (p.address / 2) (length m)) (λ (v : ℕ). noting (n + 1) m (set l n p.address) (f v)) (get_or m (p.address / 2) 0) (noted (refused (absent (asking p))) l) e
   where
-    turn : {B : Type 0} (b : Bool) (g : ℕ → Noted B) (v : ℕ) (z : Noted B) {w : ℕ} → (if b then Word v else Absent) ≡ Word w → (if b then g v else z) ≡ g w
+    turn : {B : Type 0} (b : Bool) (g : ℕ → Noted B) (v : ℕ) (z : Noted B) {w : ℕ} → (when b then Word v else Absent) ≡ Word w → (when b then g v else z) ≡ g w
     turn true g v z {w} e = let same : v ≡ w = cc in ap g same
     turn false g v z e = let z : ◌≡◌ {A = ℕ} 0 1 = cc in absurd (omega arith)
 

@@ -6,7 +6,7 @@ use Prim.Native.Nat.{ℕ, suc, ◌+◌, ◌-◌, ◌*◌, ◌/◌, ◌<◌, ◌�
 use native.Mathlib.Omega.{arith}
 use native.Mathlib.Nat.{add-zero}
 use lib.ListN.{length, get_or, set}
-use Rattle.memory.specs.Word.{if◌then◌else◌, high, low}
+use Rattle.memory.specs.Word.{when◌then◌else◌, high, low}
 use Rattle.memory.specs.declared.Fetch.TheVariants.{Word}
 use Rattle.memory.specs.declared.Pointer.{Pointer}
 use Rattle.memory.specs.Address.{onward, further}
@@ -28,15 +28,15 @@ module _ (m : List ℕ) (σ : CodeSettings) (source : Source) (end : ℕ) where
   examine-noted : (n : ℕ) (l : List ℕ) (w code : ℕ) (d : Drawing) → d.pen.list.present ≡ true
       → fetch m d.pen.list.next.address ≡ Word w
       → noting n m l (examine σ source end code d)
-      ≡ noted (given (n + (if invokes σ.flag code then 1 else 0)) (examined σ source end w code d))
-      (if invokes σ.flag code then set l n d.pen.list.next.address else l)
+      ≡ noted (given (n + (when invokes σ.flag code then 1 else 0)) (examined σ source end w code d))
+      (when invokes σ.flag code then set l n d.pen.list.next.address else l)
   unfolding examine examined
   examine-noted n l w code d p e = cases (invokes σ.flag code) refl
     where
       cases : (b : Bool) → invokes σ.flag code ≡ b
           → noting n m l (examine σ source end code d)
-          ≡ noted (given (n + (if invokes σ.flag code then 1 else 0)) (examined σ source end w code d))
-          (if invokes σ.flag code then set l n d.pen.list.next.address else l)
+          ≡ noted (given (n + (when invokes σ.flag code then 1 else 0)) (examined σ source end w code d))
+          (when invokes σ.flag code then set l n d.pen.list.next.address else l)
       cases true t = rw (t, p) (noting-word n m l d.pen.list.next _ e ∙ noting-done _ _ _ _)
       cases false t =
           rw t (noting-done _ _ _ _ ∙ ap (λ (i : ℕ). noted (given i (character σ.hidden source end d.pen.latch code d)) l) (sym (add-zero n)))
@@ -44,21 +44,21 @@ module _ (m : List ℕ) (σ : CodeSettings) (source : Source) (end : ℕ) where
   -- .. as the cursor of a segment goes on
   listed-noted : (n : ℕ) (next : Pointer) (count code : ℕ) (h h₁ : Cursor) (cs cs₁ l l₁ : List ℕ)
       → is_run σ.linear (length m) next.address count ≡ true
-      → h.taken < count → h₁.taken ≡ h.taken + (if invokes σ.flag code then 1 else 0)
+      → h.taken < count → h₁.taken ≡ h.taken + (when invokes σ.flag code then 1 else 0)
       → so_far (pen_of σ.linear next h₁) cs₁
       ≡ examined σ source end (get_or m (next.address / 2 + h.taken) 0) code (so_far (pen_of σ.linear next h) cs)
-      → l₁ ≡ (if invokes σ.flag code then set l (n + h.taken) (next.address + 2 * h.taken) else l)
+      → l₁ ≡ (when invokes σ.flag code then set l (n + h.taken) (next.address + 2 * h.taken) else l)
       → noting (n + h.taken) m l (examine σ source end code (so_far (pen_of σ.linear next h) cs))
       ≡ noted (given (n + h₁.taken) (so_far (pen_of σ.linear next h₁) cs₁)) l₁
   listed-noted n next count code h h₁ cs cs₁ l l₁ r k t e s =
       let d = so_far (pen_of σ.linear next h) cs in
       let there = run-fetch σ.linear m next.address count h.taken r k in
       let place = run-ahead (length m) next.address count σ.linear h.taken r k in
-      let words : n + h.taken + (if invokes σ.flag code then 1 else 0) ≡ n + h₁.taken = omega (arith, t) in
-      let here : (if invokes σ.flag code then set l (n + h.taken) d.pen.list.next.address else l) ≡ l₁ =
-      ap (λ (a : ℕ). if invokes σ.flag code then set l (n + h.taken) a else l) place ∙ sym s in
+      let words : n + h.taken + (when invokes σ.flag code then 1 else 0) ≡ n + h₁.taken = omega (arith, t) in
+      let here : (when invokes σ.flag code then set l (n + h.taken) d.pen.list.next.address else l) ≡ l₁ =
+      ap (λ (a : ℕ). when invokes σ.flag code then set l (n + h.taken) a else l) place ∙ sym s in
       examine-noted (n + h.taken) l (get_or m (next.address / 2 + h.taken) 0) code d refl there
-      ∙ ap₂ (λ (i : ℕ) (b : Drawing). noted (given i b) (if invokes σ.flag code then set l (n + h.taken) d.pen.list.next.address else l)) words (sym e)
+      ∙ ap₂ (λ (i : ℕ) (b : Drawing). noted (given i b) (when invokes σ.flag code then set l (n + h.taken) d.pen.list.next.address else l)) words (sym e)
       ∙ ap (noted (given (n + h₁.taken) (so_far (pen_of σ.linear next h₁) cs₁))) here
 
   -- a word of codes that is there: both of its codes, and the last one alone
@@ -82,10 +82,10 @@ module _ (m : List ℕ) (σ : CodeSettings) (source : Source) (end : ℕ) where
       (list-run : is_run σ.linear (length m) next.address count ≡ true)
       (h h₁ : Cursor) (few : h.taken ≤ 2 * i) (cs cs₁ l l₀ l₁ : List ℕ) (w : ℕ) (same : w ≡ get_or m (first / 2 + i) 0)
       (put : l₀ ≡ set l (words + i + h.taken) (first + 2 * i))
-      (taken : h₁.taken ≡ h.taken + (if invokes σ.flag (high w) then 1 else 0))
+      (taken : h₁.taken ≡ h.taken + (when invokes σ.flag (high w) then 1 else 0))
       (drawn : so_far (pen_of σ.linear next h₁) cs₁
       ≡ examined σ source end (get_or m (next.address / 2 + h.taken) 0) (high w) (so_far (pen_of σ.linear next h) cs))
-      (listed : l₁ ≡ (if invokes σ.flag (high w) then set l₀ (words + i + 1 + h.taken) (next.address + 2 * h.taken) else l₀)) where
+      (listed : l₁ ≡ (when invokes σ.flag (high w) then set l₀ (words + i + 1 + h.taken) (next.address + 2 * h.taken) else l₀)) where
     abbrev at : Pointer
     at = further σ.linear i (pointing first from)
 
@@ -103,10 +103,10 @@ module _ (m : List ℕ) (σ : CodeSettings) (source : Source) (end : ℕ) where
 
     -- .. with both of its codes
     pub pair-noted : 2 * i + 2 ≤ count → (h₂ : Cursor) (cs₂ l₂ : List ℕ)
-        → h₁.taken ≤ 2 * i + 1 → h₂.taken ≡ h₁.taken + (if invokes σ.flag (low w) then 1 else 0)
+        → h₁.taken ≤ 2 * i + 1 → h₂.taken ≡ h₁.taken + (when invokes σ.flag (low w) then 1 else 0)
         → so_far (pen_of σ.linear next h₂) cs₂
         ≡ examined σ source end (get_or m (next.address / 2 + h₁.taken) 0) (low w) (so_far (pen_of σ.linear next h₁) cs₁)
-        → l₂ ≡ (if invokes σ.flag (low w) then set l₁ (words + i + 1 + h₁.taken) (next.address + 2 * h₁.taken) else l₁)
+        → l₂ ≡ (when invokes σ.flag (low w) then set l₁ (words + i + 1 + h₁.taken) (next.address + 2 * h₁.taken) else l₁)
         → noting (words + i + h.taken) m l (codes σ source end (count - 2 * i) at (so_far (pen_of σ.linear next h) cs))
         ≡ noting (words + (i + 1) + h₂.taken) m l₂ (codes σ source end (count - 2 * (i + 1)) (further σ.linear (i + 1) (pointing first from)) (so_far (pen_of σ.linear next h₂) cs₂))
     pair-noted both h₂ cs₂ l₂ few₁ taken₂ drawn₂ listed₂ =

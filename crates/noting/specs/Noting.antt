@@ -1,6 +1,6 @@
 -- A reading whose addresses are noted in a list as its words are read: what the functions of this crate leave, no rules of their own.
 use Rattle.std.specs.Prelude.{ℕ, zero, suc, ◌+◌, ◌/◌, Bool, false, ◌||◌, List, [], ◌∷◌, length, get_or, set, ltb}
-use Rattle.memory.specs.Word.{if◌then◌else◌, high, low}
+use Rattle.memory.specs.Word.{when◌then◌else◌, high, low}
 use Rattle.memory.specs.declared.Pointer.{Pointer}
 use Rattle.memory.specs.Address.{next_word}
 use Rattle.memory.specs.Reading.{Reading, done, refuse, ask, Outcome, given, refused, absent}
@@ -20,7 +20,7 @@ unfoldable pub noting : {A : Type 0} → ℕ → List ℕ → List ℕ → Readi
 noting n m l (done a) = noted (given n a) l
 noting n m l (refuse x) = noted (refused x) l
 noting n m l (ask q f) =
-    if ltb (q.address / 2) (length m) then noting (n + 1) m (set l n q.address) (f (get_or m (q.address / 2) 0)) else noted (refused (absent q)) l
+    when ltb (q.address / 2) (length m) then noting (n + 1) m (set l n q.address) (f (get_or m (q.address / 2) 0)) else noted (refused (absent q)) l
 
 -- a pointer in use to an address; where it begins is told by refusals alone
 abbrev pub pointing : (address from : ℕ) → Pointer

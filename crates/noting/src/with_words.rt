@@ -1,6 +1,6 @@
 // The codes of a segment with a list, code by code.
 ghost use Rattle.std.specs.Prelude.{◌≡◌, true, ℕ, ◌+◌, ◌-◌, ◌*◌, ◌/◌, ◌≤◌, ◌<◌, length, get_or, set};
-ghost use Rattle.memory.specs.Word.{if◌then◌else◌};
+ghost use Rattle.memory.specs.Word.{when◌then◌else◌};
 ghost use Rattle.memory.specs.Address.{further};
 ghost use Rattle.memory.specs.Reading.{given};
 ghost use Rattle.memory.specs.Answers.{is_run};
@@ -126,9 +126,9 @@ fn examine(
 ) -> Cursor
     requires end_in_bounds { (room.end ≤ length cells.old) × (cursor.column ≤ room.end) × (cursor.attribute ≡ in_force settings.hidden room.source room.end cursor.latch) × (next.address / 2 + cursor.taken < length mem.now) × (cursor.taken ≤ 255) }
     requires taken_bound { (next.address + 2 * cursor.taken ≤ 4294967295) × (at ≤ 8000000000) }
-    ensures column_le_end { (result.column ≤ room.end) × (result.attribute ≡ in_force settings.hidden room.source room.end result.latch) × (result.taken ≡ cursor.taken + (if invokes settings.flag code then 1 else 0)) }
+    ensures column_le_end { (result.column ≤ room.end) × (result.attribute ≡ in_force settings.hidden room.source room.end result.latch) × (result.taken ≡ cursor.taken + (when invokes settings.flag code then 1 else 0)) }
     ensures cells_after { so_far (pen_of settings.linear next result) cells.new ≡ examined settings room.source room.end (get_or mem.now (next.address / 2 + cursor.taken) 0) code (so_far (pen_of settings.linear next cursor) cells.old) }
-    ensures list_after { list.new ≡ (if invokes settings.flag code then set list.old (at + cursor.taken) (next.address + 2 * cursor.taken) else list.old) }
+    ensures list_after { list.new ≡ (when invokes settings.flag code then set list.old (at + cursor.taken) (next.address + 2 * cursor.taken) else list.old) }
 {
     if attribute::invokes(settings.flag, code) {
         let a = next.address;

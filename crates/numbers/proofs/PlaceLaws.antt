@@ -10,7 +10,7 @@ use lib.ListN.{length, get_or, drop, drop_of_length-le}
 use lib.Seq.{drop-cons, get_or-drop, drop-drop}
 use lib.Dec.{leb, eqb}
 use borrow.Author.Tests.{le-leb, lt-leb, leb-true, eqb-true}
-use Rattle.memory.specs.Word.{if◌then◌else◌}
+use Rattle.memory.specs.Word.{when◌then◌else◌}
 use Rattle.state.specs.declared.State.{State}
 use Rattle.numbers.specs.declared.decode.StateIn.TheVariants.{Fit, Unfit}
 use Rattle.numbers.specs.Places.{within, Below, Within}
@@ -75,7 +75,7 @@ pub all-within : (ls xs : List ℕ) → within ls xs ≡ true → Within ls xs
 all-within ls xs e = (size ls xs e, below 0 ls xs e)
 
 -- a state's numbers are 23
-taken : (b : Bool) (t s : State) → (if b then Fit t else Unfit) ≡ Fit s → b ≡ true
+taken : (b : Bool) (t s : State) → (when b then Fit t else Unfit) ≡ Fit s → b ≡ true
 taken true t s e = refl
 taken false t s e = cc
 

@@ -1,6 +1,6 @@
 -- Settings and a state, from numbers at their places.
 use Rattle.std.specs.Prelude.{ℕ, ◌%◌, min, Bool, ◌&&◌, List, length, eqb, leb}
-use Rattle.memory.specs.Word.{if◌then◌else◌, at, low}
+use Rattle.memory.specs.Word.{when◌then◌else◌, at, low}
 use Rattle.memory.specs.declared.Pointer.{Pointer}
 use Rattle.settings.specs.declared.Edition.{Edition}
 use Rattle.settings.specs.declared.Edition.TheVariants.{Am8052, Z8052}
@@ -24,7 +24,7 @@ yes n = eqb n 1
 
 -- edition 0 Am8052 1 Z8052
 abbrev pub edition_of : ℕ → Edition
-edition_of n = if eqb n 0 then Am8052 else Z8052
+edition_of n = when eqb n 0 then Am8052 else Z8052
 
 -- as much of a number as 16 bits hold
 abbrev pub held : ℕ → ℕ
@@ -43,7 +43,7 @@ modes_fit xs =
 -- "all are in range": where one of these is not, HTD is 0, and the settings are not good ("HSD < HTD"). VSW to HTC past 16 bits are
 -- not in range as they are held
 unfoldable pub htd_at : List ℕ → ℕ
-htd_at xs = if modes_fit xs then held (at xs 16) else 0
+htd_at xs = when modes_fit xs then held (at xs 16) else 0
 
 unfoldable pub settings_at : List ℕ → Settings
 settings_at xs = record {
@@ -67,7 +67,7 @@ settings_at xs = record {
 
 -- settings in numbers, or that there are too few or too many
 unfoldable pub settings_in : List ℕ → SettingsIn
-settings_in xs = if eqb (length xs) 18 then Settings-in.Fit (settings_at xs) else Settings-in.Unfit
+settings_in xs = when eqb (length xs) 18 then Settings-in.Fit (settings_at xs) else Settings-in.Unfit
 
 -- what refusal 3 judges, within its field's range: scan lines, row attributes, CURS, CURE; where there is a window, its number, first row,
 -- last row, first column and last column. The row, the lines left and addresses are held whatever they are
@@ -78,11 +78,11 @@ abbrev pub window_fits : List ℕ → Bool
 window_fits xs = leb (at xs 13) 255 && leb (at xs 14) 255 && leb (at xs 15) 255 && leb (at xs 16) 255 && leb (at xs 19) 255
 
 unfoldable pub state_fits : List ℕ → Bool
-state_fits xs = if yes (at xs 12) then format_fits xs && window_fits xs else format_fits xs
+state_fits xs = when yes (at xs 12) then format_fits xs && window_fits xs else format_fits xs
 
 -- "state out of range": with such a number past its field's range the scan lines are 0 ("scan lines not 1..32")
 unfoldable pub lines_at : List ℕ → ℕ
-lines_at xs = if state_fits xs then low (at xs 7) else 0
+lines_at xs = when state_fits xs then low (at xs 7) else 0
 
 unfoldable pub format_at : List ℕ → RowFormat
 format_at xs = record { lines = lines_at xs; attributes = word (at xs 8); curs = low (at xs 9); cure = low (at xs 10) }
@@ -106,7 +106,7 @@ held_at xs = record {
 
 -- where there is no window, the numbers in its places mean nothing
 unfoldable pub window_at : List ℕ → WindowInHand
-window_at xs = if yes (at xs 12) then Present (held_at xs) else Absent
+window_at xs = when yes (at xs 12) then Present (held_at xs) else Absent
 
 -- lines left past 16 bits are more than 4095 as they are held; a row beside the cut is given one line whatever they are
 unfoldable pub fields_at : List ℕ → Fields
@@ -132,4 +132,4 @@ is_state xs = eqb (length xs) 23 && unjudged_fit xs
 
 -- a state in numbers, or that the numbers are none: too few, too many, or one that refusal 3 does not judge past its field's range
 unfoldable pub state_in : List ℕ → StateIn
-state_in xs = if is_state xs then State-in.Fit (state_at xs) else State-in.Unfit
+state_in xs = when is_state xs then State-in.Fit (state_at xs) else State-in.Unfit

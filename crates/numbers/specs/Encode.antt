@@ -1,6 +1,6 @@
 -- A state as numbers at their places.
 use Rattle.std.specs.Prelude.{ℕ, Bool, true, false, List, [], ◌∷◌}
-use Rattle.memory.specs.Word.{if◌then◌else◌}
+use Rattle.memory.specs.Word.{when◌then◌else◌}
 use Rattle.memory.specs.Address.{nothing}
 use Rattle.windows.specs.declared.Window.{Window}
 use Rattle.windows.specs.declared.WindowInHand.{WindowInHand}
@@ -9,7 +9,7 @@ use Rattle.state.specs.declared.State.{State}
 
 -- no is 0, yes is 1
 abbrev pub number : Bool → ℕ
-number b = if b then 1 else 0
+number b = when b then 1 else 0
 
 -- whether there is a window in hand, and the numbers for its places: 0 where there is none
 abbrev pub is_held : WindowInHand → Bool

@@ -9,7 +9,7 @@ use lib.ListN.{take, length-take}
 use lib.Seq.{get_or-take}
 use lib.Dec.{ltb, leb}
 use borrow.Author.Tests.{ltb-true, ltb-false, lt-ltb, le-ltb, leb-true, leb-false, le-leb, lt-leb}
-use Rattle.memory.specs.Word.{if◌then◌else◌}
+use Rattle.memory.specs.Word.{when◌then◌else◌}
 use Rattle.memory.proofs.ReadBounds.{if-cases}
 use Rattle.panel.specs.declared.Place.{Place}
 use Rattle.panel.specs.declared.Placed.{Placed}
@@ -86,7 +86,7 @@ module _ (d above : ℕ) (heights : List ℕ) (rows : ℕ) where
   frame = take rows heights
 
   abbrev pub down : ℕ → Background
-  down y = if ltb y d then above_at above d y else row_at (place frame (y - d))
+  down y = when ltb y d then above_at above d y else row_at (place frame (y - d))
 
   abbrev pub up : ℕ → Background
   up y = row_at (place heights (y + d))

@@ -7,7 +7,7 @@ use native.Mathlib.Omega.{arith}
 use lib.ListN.{length, take, get_or}
 use lib.Dec.{ltb, leb-suc-suc}
 use borrow.Author.Tests.{ltb-true, ltb-false, lt-ltb, le-ltb}
-use Rattle.memory.specs.Word.{if◌then◌else◌}
+use Rattle.memory.specs.Word.{when◌then◌else◌}
 use Rattle.memory.proofs.ReadBounds.{if-cases}
 use Rattle.panel.specs.declared.Place.{Place}
 use Rattle.panel.specs.declared.Placed.{Placed}
@@ -21,7 +21,7 @@ tail h hs t i there = t (suc i) (omega arith)
 later-row : (h : ℕ) (hs : List ℕ) (i : ℕ) → later (row_from hs i) ≡ row_from (h ∷ hs) (suc i)
 later-row h hs i = rw (leb-suc-suc (suc i) (length hs)) (by (ltb i (length hs)))
   where
-    by : (b : Bool) → later (if b then At (place_at i 0 (get_or hs i 0)) else Nowhere) ≡ (if b then At (place_at (suc i) 0 (get_or hs i 0)) else Nowhere)
+    by : (b : Bool) → later (when b then At (place_at i 0 (get_or hs i 0)) else Nowhere) ≡ (when b then At (place_at (suc i) 0 (get_or hs i 0)) else Nowhere)
     by true = refl
     by false = refl
 
@@ -29,8 +29,8 @@ later-next : (h : ℕ) (hs : List ℕ) (q : Placed) → later (next hs q) ≡ ne
 later-next h hs Nowhere = refl
 later-next h hs (At p) = by (ltb 1 p.left)
   where
-    by : (b : Bool) → later (if b then At (place_at p.index (suc p.line) (p.left - 1)) else row_from hs (suc p.index))
-        ≡ (if b then At (place_at (suc p.index) (suc p.line) (p.left - 1)) else row_from (h ∷ hs) (suc (suc p.index)))
+    by : (b : Bool) → later (when b then At (place_at p.index (suc p.line) (p.left - 1)) else row_from hs (suc p.index))
+        ≡ (when b then At (place_at (suc p.index) (suc p.line) (p.left - 1)) else row_from (h ∷ hs) (suc (suc p.index)))
     by true = refl
     by false = later-row h hs (suc p.index)
 
@@ -113,8 +113,8 @@ place-first zero hs z s h = let z : ◌≡◌ {A = ℕ} 0 1 = cc in absurd (omeg
 place-first (suc n) [] z s h = let z : ◌≡◌ {A = ℕ} 0 1 = cc in absurd (omega arith)
 place-first (suc n) (x ∷ xs) z s h = by (ltb z x) (place-first n xs (z - x)) h
   where
-    by : (b : Bool) → ((q : Place) → place (take n xs) (z - x) ≡ At q → place xs (z - x) ≡ At q) → (if b then At (place_at 0 z (x - z)) else later (place (take n xs) (z - x))) ≡ At s
-        → (if b then At (place_at 0 z (x - z)) else later (place xs (z - x))) ≡ At s
+    by : (b : Bool) → ((q : Place) → place (take n xs) (z - x) ≡ At q → place xs (z - x) ≡ At q) → (when b then At (place_at 0 z (x - z)) else later (place (take n xs) (z - x))) ≡ At s
+        → (when b then At (place_at 0 z (x - z)) else later (place xs (z - x))) ≡ At s
     by true rest h = h
     by false rest h = later-at (place (take n xs) (z - x)) (place xs (z - x)) s rest h
 

@@ -2,7 +2,7 @@
 -- "windows stand still"; the rest is ours. Rows have heights, and stand one after the other.
 use Rattle.std.specs.Prelude.{ℕ, suc, ◌+◌, ◌-◌, min, Bool, List, [], ◌∷◌, ℤ, pos, nat_abs, take, ltb, leb}
 use Rattle.std.specs.Int.Signed.{lt_z}
-use Rattle.memory.specs.Word.{if◌then◌else◌}
+use Rattle.memory.specs.Word.{when◌then◌else◌}
 use Rattle.panel.specs.declared.Place.{Place}
 use Rattle.panel.specs.declared.Placed.{Placed}
 use Rattle.panel.specs.declared.Placed.TheVariants.{Nowhere, At}
@@ -22,7 +22,7 @@ later (At p) = At (place_at (suc p.index) p.line p.left)
 -- which of rows of heights hs, one after the other, has line z; none past them
 unfoldable pub place : List ℕ → ℕ → Placed
 place [] z = Nowhere
-place (h ∷ hs) z = if ltb z h then At (place_at 0 z (h - z)) else later (place hs (z - h))
+place (h ∷ hs) z = when ltb z h then At (place_at 0 z (h - z)) else later (place hs (z - h))
 
 abbrev pub row_at : Placed → Background
 row_at Nowhere = Nothing
@@ -30,7 +30,7 @@ row_at (At p) = Row p
 
 -- Down by d lines, a line y of the first d: of the row above, which is h lines high (0 where there is none), its last d lines come down.
 unfoldable pub above_at : (h d y : ℕ) → Background
-above_at h d y = if leb d (h + y) then Above (place_at 0 (h + y - d) (d - y)) else Nothing
+above_at h d y = when leb d (h + y) then Above (place_at 0 (h + y - d) (d - y)) else Nothing
 
 -- "positive up and negative down"
 abbrev pub is_down : ℤ → Bool
@@ -41,8 +41,8 @@ is_down shift = lt_z shift (pos 0)
 unfoldable pub background : ℤ → (above : ℕ) → (heights : List ℕ) → (rows y : ℕ) → Background
 background shift above heights rows y =
     let d = nat_abs shift in
-    if is_down shift
-    then (if ltb y d then above_at above d y else row_at (place (take rows heights) (y - d)))
+    when is_down shift
+    then (when ltb y d then above_at above d y else row_at (place (take rows heights) (y - d)))
     else row_at (place heights (y + d))
 
 -- What stands still, on line y: the frame's rows, where they are unshifted.
@@ -51,7 +51,7 @@ still heights rows y = place (take rows heights) y
 
 -- how many lines from y on have no row gliding, of `most`: up the rest, down those before the row above comes in
 abbrev pub dark_lines : ℤ → (above y most : ℕ) → ℕ
-dark_lines shift above y most = if is_down shift then min most (nat_abs shift - above - y) else most
+dark_lines shift above y most = when is_down shift then min most (nat_abs shift - above - y) else most
 
 -- how many lines from y on have the one background, of `most`
 abbrev pub background_lines : ℤ → (above y most : ℕ) → Background → ℕ

@@ -1,6 +1,6 @@
 -- How the lines of a shifted frame follow each other, of rows that each have a scan line. Statements; their proofs are in proofs/.
 use Rattle.std.specs.Prelude.{ℕ, suc, ◌+◌, ◌-◌, ◌≤◌, ◌<◌, ◌≡◌, true, false, List, [], ◌∷◌, ℤ, pos, length, get_or, take, ltb}
-use Rattle.memory.specs.Word.{if◌then◌else◌}
+use Rattle.memory.specs.Word.{when◌then◌else◌}
 use Rattle.panel.specs.declared.Place.{Place}
 use Rattle.panel.specs.declared.Placed.{Placed}
 use Rattle.panel.specs.declared.Placed.TheVariants.{Nowhere, At}
@@ -14,12 +14,12 @@ Tall hs = (i : ℕ) → i < length hs → 1 ≤ get_or hs i 0
 
 -- line 0 of row i, where there is such a row
 abbrev pub row_from : List ℕ → ℕ → Placed
-row_from hs i = if ltb i (length hs) then At (place_at i 0 (get_or hs i 0)) else Nowhere
+row_from hs i = when ltb i (length hs) then At (place_at i 0 (get_or hs i 0)) else Nowhere
 
 -- the place after another: the next scan line of its row, or from its last one line 0 of the row that follows
 abbrev pub next : List ℕ → Placed → Placed
 next hs Nowhere = Nowhere
-next hs (At p) = if ltb 1 p.left then At (place_at p.index (suc p.line) (p.left - 1)) else row_from hs (suc p.index)
+next hs (At p) = when ltb 1 p.left then At (place_at p.index (suc p.line) (p.left - 1)) else row_from hs (suc p.index)
 
 -- a place in rows: its row is there, and has the scan lines before it and those from it on, of which it is one
 pub record Within (hs : List ℕ) (p : Place) : Type 0 where
@@ -35,11 +35,11 @@ PlaceFollows = (hs : List ℕ) → Tall hs → (z : ℕ) → place hs (suc z) �
 abbrev pub next_background : List ℕ → Background → Background
 next_background hs Nothing = Nothing
 next_background hs (Row p) = row_at (next hs (At p))
-next_background hs (Above p) = if ltb 1 p.left then Above (place_at 0 (suc p.line) (p.left - 1)) else row_at (row_from hs 0)
+next_background hs (Above p) = when ltb 1 p.left then Above (place_at 0 (suc p.line) (p.left - 1)) else row_at (row_from hs 0)
 
 -- the rows that glide, besides the row above
 abbrev pub gliding_rows : ℤ → List ℕ → ℕ → List ℕ
-gliding_rows shift heights rows = if is_down shift then take rows heights else heights
+gliding_rows shift heights rows = when is_down shift then take rows heights else heights
 
 -- From a line with a background to the next; and where there is none: up it stays so, down it was so from the first line on, of the
 -- lines where a row stands still.

@@ -1,7 +1,7 @@
 -- The cells that a line of the screen shows, from the row that stands still there and the row that glides there. "windows stand still"
 -- (02): in the columns of the still row's window it is that row's cell; elsewhere the gliding row's, or what is behind its window.
 use Rattle.std.specs.Prelude.{ℕ, zero, suc, ◌+◌, ◌-◌, ◌*◌, ◌/◌, ◌%◌, ◌^◌, Bool, true, false, ◌&&◌, ◌||◌, List, [], ◌∷◌, length, get_or, replicate, leb, eqb}
-use Rattle.memory.specs.Word.{if◌then◌else◌}
+use Rattle.memory.specs.Word.{when◌then◌else◌}
 use Rattle.panel.specs.declared.Columns.{Columns}
 
 -- a row on the screen: its cells, 132 or, where there is no row, none; and the columns of the window on it
@@ -29,7 +29,7 @@ cell_in cells x = get_or cells x nothing
 
 -- what glides in column x: of a row with a window there, the cell behind it
 abbrev pub gliding_cell : Layer → (behind : List ℕ) → ℕ → ℕ
-gliding_cell b behind x = if in_columns b.columns x then cell_in behind x else cell_in b.cells x
+gliding_cell b behind x = when in_columns b.columns x then cell_in behind x else cell_in b.cells x
 
 abbrev pub background_cell : Layer → (behind : List ℕ) → List ℕ → ℕ → ℕ
 background_cell b behind [] x = nothing
@@ -44,7 +44,7 @@ with_cursor_of still cell = cell - cursor_bit cell + cursor_bit still
 
 unfoldable pub shown_cell : Layer → Layer → (behind : List ℕ) → ℕ → ℕ
 shown_cell s b behind x =
-    if in_columns s.columns x
+    when in_columns s.columns x
     then cell_in s.cells x
     else with_cursor_of (cell_in s.cells x) (background_cell b behind b.cells x)
 
@@ -75,6 +75,6 @@ show_called accepted cells = record { accepted = accepted; cells = cells }
 
 unfoldable pub show_call : Layer → Layer → (behind cells : List ℕ) → ShowCalled
 show_call s b behind cells =
-    if sized s.cells && sized b.cells && sized behind && eqb (length cells) 132
+    when sized s.cells && sized b.cells && sized behind && eqb (length cells) 132
     then show_called true (shown s b behind)
     else show_called false cells

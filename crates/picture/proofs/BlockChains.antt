@@ -8,7 +8,7 @@ use Prim.Native.Nat.{ℕ}
 use lib.ListN.{get_elem?}
 use lib.Dec.{eqb}
 use Rattle.memory.specs.declared.Pointer.{Pointer}
-use Rattle.memory.specs.Word.{if◌then◌else◌}
+use Rattle.memory.specs.Word.{when◌then◌else◌}
 use Rattle.memory.specs.Reading.{Reading, done, ◌>>=◌, Outcome, given, run}
 use Rattle.memory.specs.Address.{null, words}
 use Rattle.memory.proofs.Agree.{All, none as none_asked, also, SameWord}
@@ -48,8 +48,8 @@ module _ (linear : Bool) (t u : RowFormat) where
   unfolding redefined ◌>>=◌
   format-near b = by (null b.redefinition)
     where
-      by : (n : Bool) → Near (Ground t u) ((if n then done t else (words linear 3 b.redefinition >>= λ ws. done (format_of ws))) >>= λ v. done (record { block = b; format = v }))
-          ((if n then done u else (words linear 3 b.redefinition >>= λ ws. done (format_of ws))) >>= λ v. done (record { block = b; format = v }))
+      by : (n : Bool) → Near (Ground t u) ((when n then done t else (words linear 3 b.redefinition >>= λ ws. done (format_of ws))) >>= λ v. done (record { block = b; format = v }))
+          ((when n then done u else (words linear 3 b.redefinition >>= λ ws. done (format_of ws))) >>= λ v. done (record { block = b; format = v }))
       by true = dones (record { block = refl; lines = λ e. e })
       by false = bind-same (words linear 3 b.redefinition >>= λ ws. done (format_of ws)) λ v. dones (record { block = refl; lines = λ _. refl })
 

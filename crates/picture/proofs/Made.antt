@@ -7,7 +7,7 @@ use Prim.Native.Nat.{ℕ, zero, suc, ◌+◌, ◌<◌}
 use native.Mathlib.Omega.{arith}
 use lib.ListN.{length, drop}
 use lib.Dec.{eqb}
-use Rattle.memory.specs.Word.{if◌then◌else◌}
+use Rattle.memory.specs.Word.{when◌then◌else◌}
 use Rattle.memory.specs.declared.Refusal.{Refusal}
 use Rattle.memory.specs.Reading.{Outcome, given, refused, run}
 use Rattle.memory.proofs.ReadBounds.{Words, reads-given, if-cases}
@@ -35,7 +35,7 @@ pub each_append : {P : PictureRow → Type 0} {rs qs : List PictureRow} → Each
 each_append none_left k = k
 each_append (and h hs) k = and h (each_append hs k)
 
-pub each-if : {P : PictureRow → Type 0} (b : Bool) {rs : List PictureRow} → Each P rs → Each P (if b then rs else [])
+pub each-if : {P : PictureRow → Type 0} (b : Bool) {rs : List PictureRow} → Each P rs → Each P (when b then rs else [])
 each-if true h = h
 each-if false h = none_left
 

@@ -9,7 +9,7 @@ use lib.ListN.{length}
 use lib.Dec.{ltb}
 use borrow.Author.Tests.{ltb-false, lt-ltb, le-ltb}
 use Rattle.memory.proofs.ReadBounds.{if-cases}
-use Rattle.memory.specs.Word.{if◌then◌else◌}
+use Rattle.memory.specs.Word.{when◌then◌else◌}
 use Rattle.panel.specs.declared.Placed.{Placed}
 use Rattle.panel.specs.declared.Placed.TheVariants.{Nowhere, At}
 use Rattle.panel.specs.declared.Background.TheVariants.{Nothing}
@@ -64,7 +64,7 @@ along-place right z h k = absurd (omega arith)
 along-place (both {h = x} {hs} {ks} a) z h k = by (λ past. along-place a (z - x) (omega arith) (omega arith)) (ltb z x) refl
   where
     by : (x ≤ z → place hs (z - x) ≡ place ks (z - x)) → (t : Bool) → ltb z x ≡ t
-        → (if t then At (place_at 0 z (x - z)) else later (place hs (z - x))) ≡ (if t then At (place_at 0 z (x - z)) else later (place ks (z - x)))
+        → (when t then At (place_at 0 z (x - z)) else later (place hs (z - x))) ≡ (when t then At (place_at 0 z (x - z)) else later (place ks (z - x)))
     by go_on true e = refl
     by go_on false e = ap later (go_on (ltb-false z x e))
 

@@ -7,7 +7,7 @@ use native.Mathlib.Omega.{arith}
 use lib.IntN.{pos, nat_abs}
 use lib.Dec.{leb}
 use borrow.Author.Tests.{leb-true, leb-false}
-use Rattle.memory.specs.Word.{if◌then◌else◌}
+use Rattle.memory.specs.Word.{when◌then◌else◌}
 use Rattle.memory.specs.Reading.{done, ◌>>=◌, Outcome, given, refused, run_from, run}
 use Rattle.memory.proofs.ReadBounds.{Words, reads-given}
 use Rattle.settings.specs.declared.PointerWords.{PointerWords}
@@ -40,7 +40,7 @@ module _ (σ : Settings) (m : List ℕ) (soft : PointerWords) where
 
   by-enable : (last : Scroll) (hard : MainBlock) {i j : ℕ} {s : FrameShift} → run m (top_block σ.linear σ.top) ≡ given i hard
       → (b : Bool) → enabled hard ≡ b
-      → run_from i m (if b then (edge_lines σ.linear soft hard >>= λ n. done (given_by hard n last)) else done (shifted (upward hard) still σ.top)) ≡ given j s
+      → run_from i m (when b then (edge_lines σ.linear soft hard >>= λ n. done (given_by hard n last)) else done (shifted (upward hard) still σ.top)) ≡ given j s
       → Gives last s
   unfolding run_from
   by-enable last hard {i} {s} read true h e =
@@ -77,7 +77,7 @@ pub reaches : (up : Bool) (n : ℕ) (hard soft : PointerWords) (g : Offset) → 
 unfolding reached
 reaches up n hard soft g = by (leb n g.lines) refl
   where
-    by : (t : Bool) → leb n g.lines ≡ t → Reaches up n hard soft g (if t then shifted up still soft else shifted up g hard)
+    by : (t : Bool) → leb n g.lines ≡ t → Reaches up n hard soft g (when t then shifted up still soft else shifted up g hard)
     by true t = ended (leb-true n g.lines t)
     by false t = moving (leb-false n g.lines t)
 
@@ -90,7 +90,7 @@ moves-by : (r : Rate) (g : Offset) → Moved r g (moved r g)
 unfolding moved
 moves-by r g = by (leb r.frames (g.phase + 1))
   where
-    by : (t : Bool) → Moved r g (if t then record { lines = g.lines + r.lines; phase = 0 } else record { lines = g.lines; phase = g.phase + 1 })
+    by : (t : Bool) → Moved r g (when t then record { lines = g.lines + r.lines; phase = 0 } else record { lines = g.lines; phase = g.phase + 1 })
     by true = stepped
     by false = waited
 

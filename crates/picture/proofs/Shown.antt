@@ -6,7 +6,7 @@ use Prim.Native.Nat.{ℕ, zero, suc, ◌+◌, ◌<◌}
 use native.Mathlib.Omega.{arith}
 use lib.ListN.{length, get_or-replicate}
 use lib.Seq.{ext_get_or}
-use Rattle.memory.specs.Word.{if◌then◌else◌}
+use Rattle.memory.specs.Word.{when◌then◌else◌}
 use Rattle.memory.proofs.ReadBounds.{if-cases}
 use Rattle.panel.specs.declared.Columns.{Columns}
 use Rattle.panel.specs.Shown.{Layer, layer, in_columns, nothing, cell_in, background_cell, with_cursor_of, shown_cell, cells_from, shown}
@@ -46,7 +46,7 @@ shows (v ∷ vs) c b behind x l =
     (if-cases (Shows (v ∷ vs) c b behind x) (in_columns c x) stands glides)
 
 -- a row on itself is that row
-by-window : (b : Bool) (v w : ℕ) → (if b then v else with_cursor_of v (if b then w else v)) ≡ v
+by-window : (b : Bool) (v w : ℕ) → (when b then v else with_cursor_of v (when b then w else v)) ≡ v
 by-window true v w = refl
 by-window false v w = own-cursor v
 

@@ -8,7 +8,7 @@ use native.Mathlib.Omega.{arith}
 use lib.IntN.{ℤ, pos, nat_abs}
 use lib.Signed.{lt_z}
 use lib.ListN.{drop}
-use Rattle.memory.specs.Word.{if◌then◌else◌}
+use Rattle.memory.specs.Word.{when◌then◌else◌}
 use Rattle.memory.proofs.ReadBounds.{Words, if-cases}
 use Rattle.settings.specs.declared.PointerWords.{PointerWords}
 use Rattle.settings.specs.declared.Settings.{Settings}
@@ -39,7 +39,7 @@ module _ (p : Picture) (y x : ℕ) where
 -- ---- in the columns ----
 
 apart : true ≡ false → ⊥
-apart e = let z : ◌≡◌ {A = ℕ} 0 1 = ap (λ (b : Bool). if b then 0 else 1) e in omega arith
+apart e = let z : ◌≡◌ {A = ℕ} 0 1 = ap (λ (b : Bool). when b then 0 else 1) e in omega arith
 
 in-columns : (p : Picture) (y x : ℕ) → in_window p y x ≡ true → {c : ℕ} → ShowsIn p y x c → c ≡ still_in p y x
 in-columns p y x h (nowhere e) = sym (ap (λ (cs : List ℕ). cell_in cs x) e)

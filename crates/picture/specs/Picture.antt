@@ -3,7 +3,7 @@
 use Rattle.std.specs.Prelude.{ℕ, Bool, ◌&&◌, List, [], ◌∷◌, ◌++◌, map, ℤ, pos, nat_abs, length, drop, leb}
 use Rattle.std.proofs.Math.Option.{Option, none, some}
 use Rattle.std.specs.Int.Signed.{lt_z}
-use Rattle.memory.specs.Word.{if◌then◌else◌}
+use Rattle.memory.specs.Word.{when◌then◌else◌}
 use Rattle.memory.specs.declared.Refusal.{Refusal}
 use Rattle.settings.specs.declared.PointerWords.{PointerWords}
 use Rattle.settings.specs.declared.Settings.{Settings}
@@ -47,7 +47,7 @@ pub record PictureRow : Type 0 where
 unfoldable pub columns_of : ℕ → WindowInHand → Columns
 columns_of number InHand.Absent = no_columns
 columns_of number (InHand.Present w) =
-    if leb w.block.top number && leb number w.block.bottom
+    when leb w.block.top number && leb number w.block.bottom
     then record { first = w.block.left; last = w.block.right }
     else no_columns
 
@@ -73,7 +73,7 @@ abbrev pub accepted_cells : Called → List ℕ
 accepted_cells c = cells_if c.answer c.buffer
 
 abbrev pub behind_in : Settings → List ℕ → State → Columns → List ℕ
-behind_in σ m before c = if leb c.first c.last then accepted_cells (row_call σ m (without_window before) blank) else []
+behind_in σ m before c = when leb c.first c.last then accepted_cells (row_call σ m (without_window before) blank) else []
 
 unfoldable pub picture_row : Settings → List ℕ → State → FrameRow → PictureRow
 picture_row σ m before r =
@@ -147,9 +147,9 @@ pub record Picture : Type 0 where
 unfoldable pub picture : ℤ → (soft : PointerWords) → ℕ → Settings → List ℕ → Picture
 picture shift soft latch σ m = record {
   shift = shift;
-  above = if is_down shift then above_row latch (with_top σ soft) m else [];
+  above = when is_down shift then above_row latch (with_top σ soft) m else [];
   rows = frame_rows latch σ m;
-  below = if lt_z (pos 0) shift then below_rows σ m (nat_abs shift) (frame latch σ m) else [];
+  below = when lt_z (pos 0) shift then below_rows σ m (nat_abs shift) (frame latch σ m) else [];
   refusal = (frame latch σ m).refusal;
 }
 

@@ -9,7 +9,7 @@ use lib.Seq.{get_or-drop}
 use lib.Dec.{ltb, leb, lit≤}
 use borrow.Author.Tests.{leb-true}
 use Rattle.memory.specs.declared.Pointer.{Pointer}
-use Rattle.memory.specs.Word.{if◌then◌else◌, bit, at}
+use Rattle.memory.specs.Word.{when◌then◌else◌, bit, at}
 use Rattle.memory.specs.Reading.{one_pointer}
 use Rattle.memory.specs.Address.{null, ahead, further}
 use Rattle.memory.proofs.ReadBounds.{Words, both}
@@ -92,7 +92,7 @@ module _ (m : List ℕ) (b : Words m) (linear : Bool) where
       (λ _. dones (record { link = (lit≤ tt, lit≤ tt); redefinition = (lit≤ tt, lit≤ tt); segments = tt }))
       λ _.
       bind m SmallFault (as-comes m SmallFault one_pointer (words-keep m b linear 3 p h)) λ head k.
-      rest-keeps p head (if redefines && bit 15 (at head 2) then 2 else 0) h k
+      rest-keeps p head (when redefines && bit 15 (at head 2) then 2 else 0) h k
 
   pub redefined-keeps : (p : Pointer) (t : RowFormat) → Small p → FormatFits t → Keeps m b FormatFits (redefined linear p t)
   unfolding redefined format_of

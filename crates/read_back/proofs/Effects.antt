@@ -7,7 +7,7 @@ use Prim.Native.Nat.{ℕ, ◌≤◌}
 use native.Mathlib.Omega.{arith}
 use lib.Dec.{eqb, leb, lit≤}
 use borrow.Author.Tests.{leb-true, eqb-true}
-use Rattle.memory.specs.Word.{if◌then◌else◌, at}
+use Rattle.memory.specs.Word.{when◌then◌else◌, at}
 use Rattle.memory.specs.declared.Fault.{Fault}
 use Rattle.memory.specs.Reading.{Outcome, given, refused, refusal, from_told, run}
 use Rattle.memory.proofs.ReadBounds.{Words, both, if-cases}
@@ -61,7 +61,7 @@ listed n h =
 -- ---- one part ----
 
 -- where the pointer of a refusal begins is told of a 7 alone
-told-from : (t : Bool) (from : ℕ) → from ≤ any → ((if t then from else 0) ≤ any) × (t || eqb (if t then from else 0) 0 ≡ true)
+told-from : (t : Bool) (from : ℕ) → from ≤ any → ((when t then from else 0) ≤ any) × (t || eqb (when t then from else 0) 0 ≡ true)
 told-from true from h = (h, refl)
 told-from false from h = (lit≤ tt, refl)
 

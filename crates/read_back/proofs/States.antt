@@ -7,7 +7,7 @@ use Prim.Native.Nat.{ℕ, ◌≤◌, ◌<◌}
 use native.Mathlib.Omega.{arith}
 use lib.ListN.{length}
 use lib.Dec.{eqb, lit≤}
-use Rattle.memory.specs.Word.{if◌then◌else◌, at}
+use Rattle.memory.specs.Word.{when◌then◌else◌, at}
 use Rattle.memory.specs.Reading.{Outcome, given, refused, run}
 use Rattle.memory.proofs.ReadBounds.{if-cases}
 use Rattle.settings.specs.declared.Settings.{Settings}
@@ -34,7 +34,7 @@ use Rattle.read_back.proofs.Rows.{FieldsFit, StateFits, RowFits, TopsFit, start-
 
 -- ---- from numbers ----
 
-taken : (t : Bool) (s u : State) → (if t then State-in.Fit s else State-in.Unfit) ≡ State-in.Fit u → s ≡ u
+taken : (t : Bool) (s u : State) → (when t then State-in.Fit s else State-in.Unfit) ≡ State-in.Fit u → s ≡ u
 taken true s u e = cc
 taken false s u e = let q : ◌≡◌ {A = ℕ} 0 1 = cc in absurd (omega arith)
 
@@ -76,7 +76,7 @@ module _ (xs : List ℕ) (h : Numbers xs) where
   unfolding state_in
   read_fits {s} e = subst StateFits (taken (is_state xs) (state_at xs) s e) (record { latch = omega arith; fields = fields_fit })
 
-tops_fit : (t : Bool) (xs : List ℕ) {σ : Settings} → (if t then Settings-in.Fit (settings_at xs) else Settings-in.Unfit) ≡ Settings-in.Fit σ → TopsFit σ
+tops_fit : (t : Bool) (xs : List ℕ) {σ : Settings} → (when t then Settings-in.Fit (settings_at xs) else Settings-in.Unfit) ≡ Settings-in.Fit σ → TopsFit σ
 unfolding settings_at
 tops_fit true xs {σ} e =
     let same : settings_at xs ≡ σ = cc in

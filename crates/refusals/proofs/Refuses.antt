@@ -9,7 +9,7 @@ use lib.Dec.{ltb, eqb}
 use borrow.Author.Tests.{eqb-true, ltb-false}
 use Rattle.memory.specs.declared.Fault.{Fault}
 use Rattle.memory.specs.declared.Pointer.{Pointer}
-use Rattle.memory.specs.Word.{if◌then◌else◌}
+use Rattle.memory.specs.Word.{when◌then◌else◌}
 use Rattle.memory.specs.Reading.{Role, Ask, Reading, done, refuse, ask, ◌>>=◌, read_as, check, check_of, each, Outcome, given, refused, run_from}
 use Rattle.memory.specs.Address.{onward, words}
 use Rattle.memory.proofs.ReadBounds.{if-cases, both}
@@ -73,7 +73,7 @@ unfolding ◌>>=◌
 unless-then n true h f = f tt
 unless-then n false h f = refuses (h refl)
 
-pub if-refuses : {A : Type 0} {ns : List ℕ} (b : Bool) {p q : Reading A} → Refuses ns p → Refuses ns q → Refuses ns (if b then p else q)
+pub if-refuses : {A : Type 0} {ns : List ℕ} (b : Bool) {p q : Reading A} → Refuses ns p → Refuses ns q → Refuses ns (when b then p else q)
 if-refuses {ns} b h k = if-cases (Refuses ns) b (λ _. h) (λ _. k)
 
 -- of what holds of every reading

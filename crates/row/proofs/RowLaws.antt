@@ -8,7 +8,7 @@ use lib.ListN.{length, set}
 use lib.Seq.{set_out}
 use lib.Dec.{ltb, lit≤}
 use borrow.Author.Tests.{ltb-false}
-use Rattle.memory.specs.Word.{if◌then◌else◌}
+use Rattle.memory.specs.Word.{when◌then◌else◌}
 use Rattle.memory.specs.declared.Fault.{Fault}
 use Rattle.memory.specs.Reading.{Reading, given, refused, run_from, run}
 use Rattle.memory.proofs.Laws.{bind-given, bind-refused, run-done}
@@ -58,6 +58,6 @@ module _ (σ : Settings) (m : List ℕ) (s : State) {n : ℕ} {p : Plan} (e : gi
   planned-drawn h = sym (bind-given 0 m (plan σ s.fields) _ (sym e) ∙ bind-given n m cells _ (sym h) ∙ run-done _ _ _)
 
 -- a mark past the cells changes nothing
-pub mark-off : (b : Bool) (x v : ℕ) (cs : List ℕ) → b && ltb x 132 ≡ false → length cs ≡ 132 → cs ≡ (if b then set cs x v else cs)
+pub mark-off : (b : Bool) (x v : ℕ) (cs : List ℕ) → b && ltb x 132 ≡ false → length cs ≡ 132 → cs ≡ (when b then set cs x v else cs)
 mark-off true x v cs e l = sym (set_out cs x v (omega (arith, ltb-false x 132 e)))
 mark-off false x v cs e l = refl

@@ -1,7 +1,7 @@
 -- A row, and the row call with its row buffer.
 use Rattle.std.specs.Prelude.{ℕ, ◌^◌, ◌<◌, ◌&&◌, List, length, get_or, set, eqb}
 use Rattle.std.specs.Int.Bits.{bit_or}
-use Rattle.memory.specs.Word.{if◌then◌else◌}
+use Rattle.memory.specs.Word.{when◌then◌else◌}
 use Rattle.memory.specs.Reading.{Reading, done, fault, ◌>>=◌, Outcome, given, refused, refusal, run}
 use Rattle.settings.specs.declared.Settings.{Settings}
 use Rattle.blocks.specs.declared.FillMode.{FillMode}
@@ -45,7 +45,7 @@ row σ s = do
 -- Cell bit "22 the absolute cursor, when enabled and X, Y are this cell"
 unfoldable pub with_cursor : Settings → Fields → List ℕ → List ℕ
 with_cursor σ f cs =
-    if σ.cursor && eqb f.cursor.y f.row
+    when σ.cursor && eqb f.cursor.y f.row
     then set cs f.cursor.x (bit_or (get_or cs f.cursor.x 0) (2 ^ 22))
     else cs
 
@@ -75,7 +75,7 @@ answered σ f buffer (refused x) = called (Refused (refusal f.row x)) buffer
 -- Refusal 1: "row buffer not 132 cells"
 unfoldable pub row_call : Settings → List ℕ → State → List ℕ → Called
 row_call σ m s buffer =
-    if eqb (length buffer) 132
+    when eqb (length buffer) 132
     then answered σ s.fields buffer (run m (row σ s))
     else called (Refused (refusal s.fields.row (fault 1))) buffer
 

@@ -9,7 +9,7 @@ use lib.Seq.{drop-cons}
 use lib.Dec.{ltb, leb-suc-zero}
 use borrow.Author.Tests.{ltb-true, ltb-false, lt-ltb, le-ltb}
 use Rattle.memory.specs.declared.Fetch.TheVariants.{Word}
-use Rattle.memory.specs.Word.{if◌then◌else◌, high, low}
+use Rattle.memory.specs.Word.{when◌then◌else◌, high, low}
 use Rattle.memory.specs.Reading.{◌>>=◌, each, fetch, given, run_from}
 use Rattle.memory.specs.declared.Pointer.{Pointer}
 use Rattle.memory.specs.Address.{ahead, onward}
@@ -31,11 +31,11 @@ use Rattle.codes.proofs.CodeLaws.{cell-code, cell_room, character-put, character
 -- ---- one character ----
 
 -- an ignored character stands before no column
-limit-test : (shown : Bool) (column end : ℕ) → ltb column (if shown then end else 0) ≡ shown && ltb column end
+limit-test : (shown : Bool) (column end : ℕ) → ltb column (when shown then end else 0) ≡ shown && ltb column end
 limit-test true column end = refl
 limit-test false column end = leb-suc-zero column
 
-limit-least : (shown : Bool) (end : ℕ) → (if shown then end else 0) ≤ end
+limit-least : (shown : Bool) (end : ℕ) → (when shown then end else 0) ≤ end
 limit-least true end = omega arith
 limit-least false end = omega arith
 
@@ -57,7 +57,7 @@ in-force-room attribute hidden source end a n e l = (
 )
 
 pub column-room : (attribute : InForce) (hidden : Bool) (source : Source) (end a column : ℕ) → attribute ≡ in_force hidden source end a → column ≤ end
-    → (if ltb column attribute.limit then column + 1 else column) ≤ end
+    → (when ltb column attribute.limit then column + 1 else column) ≤ end
 column-room attribute hidden source end a column e l =
     if-cases (λ n. n ≤ end) (ltb column attribute.limit)
     (λ t. omega (arith, ltb-true column attribute.limit t, ap (λ (k : InForce). k.limit) e, limit-least (hidden || not (ignores a)) end)) (λ _. l)
@@ -68,7 +68,7 @@ module _ (w : ℕ) (own : InForce) (column : ℕ) (h : Cursor) where
       → (with_word w own column h).attribute ≡ in_force hidden source end (with_word w own column h).latch
   in-force-taken hidden source end e g = cases (latches w)
     where
-      cases : (b : Bool) → (if b then own else h.attribute) ≡ in_force hidden source end (if b then w else h.latch)
+      cases : (b : Bool) → (when b then own else h.attribute) ≡ in_force hidden source end (when b then w else h.latch)
       cases true = e
       cases false = g
 
@@ -77,8 +77,8 @@ module _ (w : ℕ) (own : InForce) (column : ℕ) (h : Cursor) where
   pen-taken linear list =
       ap (λ (next : ℕ). record {
         column = column;
-        latch = if latches w then w else h.latch;
-        latched = if latches w then true else h.latched;
+        latch = when latches w then w else h.latch;
+        latched = when latches w then true else h.latched;
         list = record { present = true; next = record { address = next; from = list.from } };
       }) (ahead_more linear h.taken list.address)
 
@@ -94,7 +94,7 @@ pen-begun linear hidden source end p e =
       list = record { present = present; next = p.list.next };
     }) (sym e)
 
-pub one-most : (b : Bool) → (if b then 1 else 0) ≤ 1
+pub one-most : (b : Bool) → (when b then 1 else 0) ≤ 1
 one-most true = omega arith
 one-most false = omega arith
 
@@ -152,18 +152,18 @@ module _ (m : List ℕ) (σ : CodeSettings) (source : Source) (end : ℕ) where
 
   -- one code, where the next word of its list is there
   pub examine-there : (n w code : ℕ) (d : Drawing) → d.pen.list.present ≡ true → fetch m d.pen.list.next.address ≡ Word w
-      → run_from n m (examine σ source end code d) ≡ given (n + (if invokes σ.flag code then 1 else 0)) (examined σ source end w code d)
+      → run_from n m (examine σ source end code d) ≡ given (n + (when invokes σ.flag code then 1 else 0)) (examined σ source end w code d)
   unfolding examined
   examine-there n w code d p e = cases (invokes σ.flag code) refl
     where
       cases : (b : Bool) → invokes σ.flag code ≡ b
-          → run_from n m (examine σ source end code d) ≡ given (n + (if invokes σ.flag code then 1 else 0)) (examined σ source end w code d)
+          → run_from n m (examine σ source end code d) ≡ given (n + (when invokes σ.flag code then 1 else 0)) (examined σ source end w code d)
       cases true t = examine-word n m σ source end code d w (rw (t, p)) e ∙ sym (rw t)
       cases false t = examine-latch n m σ source end code d (rw t) ∙ sym (rw t (ap (λ (i : ℕ). given i (character σ.hidden source end d.pen.latch code d)) (omega arith)))
 
   -- .. as the cursor of a segment goes on
   pub listed-step : (n : ℕ) (list : Pointer) (count c : ℕ) (rest : List ℕ) (h h₁ : Cursor) (cs cs₁ : List ℕ) → is_run σ.linear (length m) list.address count ≡ true
-      → h.taken < count → h₁.taken ≡ h.taken + (if invokes σ.flag c then 1 else 0)
+      → h.taken < count → h₁.taken ≡ h.taken + (when invokes σ.flag c then 1 else 0)
       → so_far (pen_of σ.linear list h₁) cs₁ ≡ examined σ source end (get_or m (list.address / 2 + h.taken) 0) c (so_far (pen_of σ.linear list h) cs)
       → run_from (n + h.taken) m (each (examine σ source end) (c ∷ rest) (so_far (pen_of σ.linear list h) cs))
       ≡ run_from (n + h₁.taken) m (each (examine σ source end) rest (so_far (pen_of σ.linear list h₁) cs₁))

@@ -1,6 +1,6 @@
 -- Codes whose words stand one after the other in memory: what the loops over them make, in the words of `Codes`. No rules of their own.
 use Rattle.std.specs.Prelude.{ℕ, zero, suc, ◌+◌, Bool, true, ◌||◌, not, List, [], ◌∷◌}
-use Rattle.memory.specs.Word.{if◌then◌else◌, high, low}
+use Rattle.memory.specs.Word.{when◌then◌else◌, high, low}
 use Rattle.memory.specs.declared.Pointer.{Pointer}
 use Rattle.memory.specs.Address.{further}
 use Rattle.codes.specs.declared.CodeSettings.{CodeSettings}
@@ -27,14 +27,14 @@ characters hidden source end attribute (c ∷ cs) d =
 -- one code of a segment with a list whose next word is w
 unfoldable pub examined : CodeSettings → Source → ℕ → ℕ → ℕ → Drawing → Drawing
 examined σ source end w code d =
-    if invokes σ.flag code
+    when invokes σ.flag code
     then character σ.hidden source end w code (drawing (taking σ.linear w d.pen) d.cells)
     else character σ.hidden source end d.pen.latch code d
 
 -- what an attribute makes of a character: its cell's bits but the code's, and the column that it stands before
 abbrev pub in_force : Bool → Source → ℕ → ℕ → InForce
 in_force hidden source end attribute =
-    record { bits = cell source attribute 0; limit = if hidden || not (ignores attribute) then end else 0 }
+    record { bits = cell source attribute 0; limit = when hidden || not (ignores attribute) then end else 0 }
 
 -- where drawing stands in a segment: at its begin, and once a word of its list is taken
 abbrev pub cursor_of : Bool → Source → ℕ → Pen → Cursor
@@ -49,10 +49,10 @@ cursor_of hidden source end p = record {
 abbrev pub with_word : ℕ → InForce → ℕ → Cursor → Cursor
 with_word w own column h = record {
   column = column;
-  latch = if latches w then w else h.latch;
-  latched = if latches w then true else h.latched;
+  latch = when latches w then w else h.latch;
+  latched = when latches w then true else h.latched;
   taken = h.taken + 1;
-  attribute = if latches w then own else h.attribute;
+  attribute = when latches w then own else h.attribute;
 }
 
 -- the pen of a cursor, whose list begins at a pointer

@@ -1,6 +1,6 @@
 // The codes of a segment with a list.
 ghost use Rattle.std.specs.Prelude.{◌≡◌, Bool, true, ℕ, ◌+◌, ◌-◌, ◌*◌, ◌/◌, ◌%◌, ◌≤◌, ◌<◌, length, get_or, drop, ltb};
-ghost use Rattle.memory.specs.Word.{if◌then◌else◌};
+ghost use Rattle.memory.specs.Word.{when◌then◌else◌};
 ghost use Rattle.memory.specs.Reading.{each, given, run_from};
 ghost use Rattle.memory.specs.Answers.{is_run};
 ghost use Rattle.codes.specs.declared.Source.{Source};
@@ -124,7 +124,7 @@ pub fn examine_listed(
     cells: &mut [u32],
 ) -> Cursor
     requires { (room.end ≤ length cells.old) × (cursor.column ≤ room.end) × (cursor.attribute ≡ in_force settings.hidden room.source room.end cursor.latch) × (list.address / 2 + cursor.taken < length mem.now) × (cursor.taken ≤ 255) }
-    ensures column_le_end { (result.column ≤ room.end) × (result.attribute ≡ in_force settings.hidden room.source room.end result.latch) × (result.taken ≡ cursor.taken + (if invokes settings.flag code then 1 else 0)) }
+    ensures column_le_end { (result.column ≤ room.end) × (result.attribute ≡ in_force settings.hidden room.source room.end result.latch) × (result.taken ≡ cursor.taken + (when invokes settings.flag code then 1 else 0)) }
     ensures cells_after { so_far (pen_of settings.linear list result) cells.new ≡ examined settings room.source room.end (get_or mem.now (list.address / 2 + cursor.taken) 0) code (so_far (pen_of settings.linear list cursor) cells.old) }
 {
     if attribute::invokes(settings.flag, code) {
@@ -221,7 +221,7 @@ fn in_force(hidden: bool, room: Room, attribute: u16) -> InForce
 // A character at a column, unless it has to stand before it. Gives the column after it.
 fn put_code(attribute: InForce, code: u8, column: usize, cells: &mut [u32]) -> usize
     requires { (attribute.limit ≤ length cells.old) × (attribute.bits % 256 ≡ 0) }
-    ensures value { result ≡ (if ltb column attribute.limit then column + 1 else column) }
+    ensures value { result ≡ (when ltb column attribute.limit then column + 1 else column) }
     ensures cells_after { (hidden : Bool) (source : Source) (end a : ℕ) (p : Pen) → attribute ≡ in_force hidden source end a → p.column ≡ column → end ≤ length cells.old → so_far (moved_to result p) cells.new ≡ character hidden source end a code (so_far p cells.old) }
 {
     if column < attribute.limit {

@@ -1,6 +1,6 @@
 -- The choice by a kind, in each of its three cases.
 use Rattle.std.proofs.Common.{◌≡◌, ℕ, Bool, true, false, eqb, refl, eq-eqb, ne_eqb}
-use Rattle.memory.specs.Word.{if◌then◌else◌}
+use Rattle.memory.specs.Word.{when◌then◌else◌}
 use Rattle.script.specs.Records.{by_kind}
 
 module _ {A : Type 0} (kind : ℕ) (x y z : A) where
@@ -16,6 +16,6 @@ module _ {A : Type 0} (kind : ℕ) (x y z : A) where
 pub kind-other : {A : Type 0} (kind : ℕ) (x y : A) → (kind ≡ 2 → ⊥) → by_kind kind x y x ≡ x
 kind-other kind x y g = rw (ne_eqb kind 2 g) (same (eqb kind 1) x)
   where
-    same : {A : Type 0} (b : Bool) (x : A) → (if b then x else x) ≡ x
+    same : {A : Type 0} (b : Bool) (x : A) → (when b then x else x) ≡ x
     same true x = refl
     same false x = refl

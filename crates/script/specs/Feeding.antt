@@ -1,7 +1,7 @@
 -- A script read byte by byte, as the code does: what a byte leads to from where the script stands. That this is the script by its records
 -- is `ByRecords.read-script`.
 use Rattle.std.specs.Prelude.{ℕ, ◌+◌, ◌-◌, ◌*◌, ◌%◌, ◌^◌, List, [], ◌∷◌, ◌++◌, replicate, ◌==◌, nat_le}
-use Rattle.memory.specs.Word.{if◌then◌else◌}
+use Rattle.memory.specs.Word.{when◌then◌else◌}
 use Rattle.settings.specs.declared.Settings.{Settings}
 use Rattle.script.specs.declared.Script.{Script}
 use Rattle.script.specs.declared.Step.{Step}
@@ -20,8 +20,8 @@ counted n = (n + 1) % 2 ^ 64
 -- the byte of kind
 unfoldable pub begun : Script → ℕ → Step
 begun s kind =
-    if kind == 0 then Draw s.settings
-    else if nat_le kind 3
+    when kind == 0 then Draw s.settings
+    else when nat_le kind 3
     then More (record { settings = s.settings; read = counted s.read; start = s.read; kind = kind; left = body_length kind; body = 0 })
     else Refused s.read
 
@@ -50,14 +50,14 @@ with_settings σ s = record { settings = σ; read = s.read; start = s.start; kin
 -- a record whose body is there
 unfoldable pub ended : Script → List ℕ → Stepped
 ended s m =
-    if accepted s.kind s.body
+    when accepted s.kind s.body
     then stepped (More (with_settings (settings_after s.kind s.body s.settings) s)) (memory_after s.kind s.body m)
     else stepped (Refused s.start) m
 
 unfoldable pub step_of : Script → ℕ → List ℕ → Stepped
 step_of s b m =
-    if s.left == 0 then stepped (begun s b) m
-    else if s.left == 1 then ended (taken s b) m
+    when s.left == 0 then stepped (begun s b) m
+    else when s.left == 1 then ended (taken s b) m
     else stepped (More (taken s b)) m
 
 -- go on with the bytes that follow, unless a draw or a refusal stops the script

@@ -1,13 +1,13 @@
 -- Document 01, "The draw program": what a record of a script does to settings and memory, and which records are refused.
 -- A record's body is one number, "high byte first".
 use Rattle.std.specs.Prelude.{ℕ, ◌/◌, ◌%◌, Bool, not, ◌&&◌, List, ◌==◌, nat_le, nat_lt, slice_set}
-use Rattle.memory.specs.Word.{if◌then◌else◌, bit}
+use Rattle.memory.specs.Word.{when◌then◌else◌, bit}
 use Rattle.settings.specs.declared.Settings.{Settings}
 use Rattle.settings.specs.Good.{interlace_of}
 
 -- a choice by the kind of a record that has a body: 1, 2 or 3
 abbrev pub by_kind : {A : Type 0} → ℕ → A → A → A → A
-by_kind kind register word switches = if kind == 1 then register else if kind == 2 then word else switches
+by_kind kind register word switches = when kind == 1 then register else when kind == 2 then word else switches
 
 -- "1: register address, value (3). 2: byte address, word (5). 3: switches (1)"
 abbrev pub body_length : ℕ → ℕ
@@ -53,23 +53,23 @@ registered register v σ = record {
   hidden = σ.hidden;
   interlace = σ.interlace;
   cursor = σ.cursor;
-  flag = if register == 0x08 then v else σ.flag;
+  flag = when register == 0x08 then v else σ.flag;
   top = record {
-    first = if register == 0x09 then v else σ.top.first;
-    second = if register == 0x0a then v else σ.top.second;
+    first = when register == 0x09 then v else σ.top.first;
+    second = when register == 0x0a then v else σ.top.second;
   };
   tow = record {
-    first = if register == 0x0b then v else σ.tow.first;
-    second = if register == 0x0c then v else σ.tow.second;
+    first = when register == 0x0b then v else σ.tow.first;
+    second = when register == 0x0c then v else σ.tow.second;
   };
-  vsw = if register == 0x11 then v % 64 else σ.vsw;
-  vsd = if register == 0x11 then v / 64 % 64 else σ.vsd;
-  val = if register == 0x12 then v % 4096 else σ.val;
-  vtot = if register == 0x13 then v % 4096 else σ.vtot;
-  hsync = if register == 0x14 then v % 256 else σ.hsync;
-  hsd = if register == 0x16 then v % 512 else σ.hsd;
-  htc = if register == 0x17 then v % 1024 else σ.htc;
-  htd = if register == 0x18 then v % 1024 else σ.htd;
+  vsw = when register == 0x11 then v % 64 else σ.vsw;
+  vsd = when register == 0x11 then v / 64 % 64 else σ.vsd;
+  val = when register == 0x12 then v % 4096 else σ.val;
+  vtot = when register == 0x13 then v % 4096 else σ.vtot;
+  hsync = when register == 0x14 then v % 256 else σ.hsync;
+  hsd = when register == 0x16 then v % 512 else σ.hsd;
+  htc = when register == 0x17 then v % 1024 else σ.htc;
+  htd = when register == 0x18 then v % 1024 else σ.htd;
   edition = σ.edition;
 }
 

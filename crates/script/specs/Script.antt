@@ -1,7 +1,7 @@
 -- Document 01, "The draw program": "It reads a script on standard input: one byte of kind, then a body of fixed length, high
 -- byte first." A script comes to a draw, or is refused.
 use Rattle.std.specs.Prelude.{ℕ, zero, suc, ◌+◌, ◌*◌, false, List, [], ◌∷◌, length, take, drop, replicate, ◌==◌, nat_lt}
-use Rattle.memory.specs.Word.{if◌then◌else◌}
+use Rattle.memory.specs.Word.{when◌then◌else◌}
 use Rattle.settings.specs.declared.Edition.TheVariants.{Am8052}
 use Rattle.settings.specs.declared.Interlace.TheVariants.{Progressive}
 use Rattle.settings.specs.declared.Settings.{Settings}
@@ -49,10 +49,10 @@ records size zero at σ m bytes = refused_at size
 records size (suc n) at σ m [] = refused_at size
 records size (suc n) at σ m (kind ∷ bytes) =
     let body : ℕ = number (take (body_length kind) bytes) in
-    if kind == 0 then drawn σ m
-    else if nat_lt 3 kind then refused_at at
-    else if nat_lt (length bytes) (body_length kind) then refused_at size
-    else if accepted kind body
+    when kind == 0 then drawn σ m
+    else when nat_lt 3 kind then refused_at at
+    else when nat_lt (length bytes) (body_length kind) then refused_at size
+    else when accepted kind body
     then records size n (at + 1 + body_length kind) (settings_after kind body σ) (memory_after kind body m) (drop (body_length kind) bytes)
     else refused_at at
 

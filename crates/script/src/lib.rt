@@ -1,7 +1,7 @@
 #![tactic(auto)]
 // The script of the draw program: its records, read byte by byte, set settings and memory.
 ghost use Rattle.std.specs.Prelude.{◌≡◌, ◌-◌};
-ghost use Rattle.memory.specs.Word.{if◌then◌else◌};
+ghost use Rattle.memory.specs.Word.{when◌then◌else◌};
 ghost use Rattle.script.specs.Records.{body_length, switched, registered, accepted, settings_after, memory_after};
 ghost use Rattle.script.specs.Feeding.{beginning, counted, begun, taken, stepped, ended, step_of, feeding, at_end};
 ghost use Rattle.script.specs.Script.{unset};
@@ -242,7 +242,7 @@ fn set_register(register: u64, v: u16, s: Settings) -> Settings
 }
 
 fn pick(test: bool, v: u16, other: u16) -> u16
-    ensures { result ≡ (if test then v else other) }
+    ensures { result ≡ (when test then v else other) }
 {
     if test { v } else { other }
 }

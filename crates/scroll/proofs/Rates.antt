@@ -6,7 +6,7 @@ use native.Mathlib.Nat.{div-add-mod', mod-lt, div-eq_of_lt-le, div-eq_of_eq-mul_
 use native.Mathlib.Omega.{arith}
 use lib.Dec.{leb, ltb}
 use borrow.Author.Tests.{leb-true, leb-false, le-leb, lt-ltb, le-ltb}
-use Rattle.memory.specs.Word.{if◌then◌else◌}
+use Rattle.memory.specs.Word.{when◌then◌else◌}
 use Rattle.memory.proofs.ReadBounds.{if-cases}
 use Rattle.scroll.specs.declared.Rate.{Rate}
 use Rattle.scroll.specs.declared.Offset.{Offset}
@@ -19,16 +19,16 @@ Fast n = (g : Offset) → moved (rate n) g ≡ record { lines = g.lines + (n + 1
 
 abbrev pub Slow : ℕ → Type 0
 Slow n = (g : Offset) → moved (rate n) g
-    ≡ (if ltb (g.phase + 1) (n - 7) then record { lines = g.lines; phase = g.phase + 1 } else record { lines = g.lines + 1; phase = 0 })
+    ≡ (when ltb (g.phase + 1) (n - 7) then record { lines = g.lines; phase = g.phase + 1 } else record { lines = g.lines + 1; phase = 0 })
 
 pub rate-rule : (n : ℕ) → n < 16 → (n < 8 → Fast n) × (8 ≤ n → Slow n)
 unfolding rate moved
 rate-rule n h =
     ((λ k g. rw (lt-ltb n 8 k, le-leb 1 (g.phase + 1) (omega arith))), λ k g. rw (le-ltb n 8 k) (slow _ _ (n - 7) (g.phase + 1)))
   where
-    slow : (x y : Offset) (f p : ℕ) → (if leb f p then x else y) ≡ (if ltb p f then y else x)
+    slow : (x y : Offset) (f p : ℕ) → (when leb f p then x else y) ≡ (when ltb p f then y else x)
     slow x y f p =
-        if-cases (λ (z : Offset). z ≡ (if ltb p f then y else x)) (leb f p) (λ t. rw (le-ltb p f (leb-true f p t)))
+        if-cases (λ (z : Offset). z ≡ (when ltb p f then y else x)) (leb f p) (λ t. rw (le-ltb p f (leb-true f p t)))
         (λ t. rw (lt-ltb p f (leb-false f p t)))
 
 -- ---- the calls that a scroll takes ----

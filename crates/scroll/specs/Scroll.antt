@@ -2,7 +2,7 @@
 -- hard top's main block and gives shift, phase, direction (bit 13) and hard top from the last ones." The hard top is the settings' TOP.
 use Rattle.std.specs.Prelude.{ℕ, ◌+◌, Bool, true, false, ◌&&◌, ◌||◌, List, ℤ, pos, neg_ℤ, nat_abs, leb, eqb}
 use Rattle.std.specs.Int.Signed.{le_z}
-use Rattle.memory.specs.Word.{if◌then◌else◌}
+use Rattle.memory.specs.Word.{when◌then◌else◌}
 use Rattle.memory.specs.Reading.{Reading, done, ◌>>=◌, ◌>>◌, check, Outcome, given, refused, refusal, run}
 use Rattle.settings.specs.declared.PointerWords.{PointerWords}
 use Rattle.settings.specs.declared.Settings.{Settings}
@@ -26,7 +26,7 @@ signed false n = neg_ℤ (pos n)
 
 -- "direction (bit 13)": 1 up, 0 down
 abbrev pub direction_of : Bool → ℕ
-direction_of up = if up then 1 else 0
+direction_of up = when up then 1 else 0
 
 -- a shift from 0 to 31 with direction up, or from -31 to 0 with direction down
 abbrev pub fits_direction : ℕ → ℤ → Bool
@@ -41,7 +41,7 @@ in_range s = fits_direction s.direction s.shift && leb s.phase 7
 -- direction, before the move."
 unfoldable pub from_last : Bool → Scroll → Offset
 from_last up last =
-    if eqb last.direction (direction_of up)
+    when eqb last.direction (direction_of up)
     then record { lines = nat_abs last.shift; phase = last.phase }
     else record { lines = 0; phase = 0 }
 
@@ -49,7 +49,7 @@ from_last up last =
 -- A move sets the phase 0." (A fast rate has one frame.)
 unfoldable pub moved : Rate → Offset → Offset
 moved r g =
-    if leb r.frames (g.phase + 1)
+    when leb r.frames (g.phase + 1)
     then record { lines = g.lines + r.lines; phase = 0 }
     else record { lines = g.lines; phase = g.phase + 1 }
 
@@ -66,7 +66,7 @@ still = record { lines = 0; phase = 0 }
 -- "A scroll ends when the shift would reach the scan lines of the row that leaves .. or enters ..; the hard top then takes the soft
 -- one and the phase is 0." The shift "is 0 in the frame that ends a scroll".
 unfoldable pub reached : Bool → ℕ → PointerWords → PointerWords → Offset → FrameShift
-reached up row_lines hard soft g = if leb row_lines g.lines then shifted up still soft else shifted up g hard
+reached up row_lines hard soft g = when leb row_lines g.lines then shifted up still soft else shifted up g hard
 
 -- the scan lines of a list's first row, "whole block, then redefinition"
 unfoldable pub first_lines : Bool → MainBlock → Reading ℕ
@@ -76,13 +76,13 @@ first_lines linear m = do
 
 -- "the row that leaves (up, the hard list's first) or enters (down, the soft list's first), read in every enabled call"
 unfoldable pub edge_lines : Bool → PointerWords → MainBlock → Reading ℕ
-edge_lines linear soft hard = if upward hard then first_lines linear hard else do
+edge_lines linear soft hard = when upward hard then first_lines linear hard else do
   m ← top_block linear soft
   first_lines linear m
 
 -- the call, once the hard top's main block is read
 unfoldable pub shift_by : Settings → PointerWords → Scroll → MainBlock → Reading FrameShift
-shift_by σ soft last hard = if enabled hard then (do
+shift_by σ soft last hard = when enabled hard then (do
   n ← edge_lines σ.linear soft hard
   done (reached (upward hard) n σ.top soft (moved (rate (rate_number hard)) (from_last (upward hard) last))))
     else done (shifted (upward hard) still σ.top)

@@ -1,6 +1,6 @@
 -- Document 02, §5: "in half lines per field, the first field after enable even".
 use Rattle.std.specs.Prelude.{ℕ, zero, suc, ◌+◌, ◌%◌}
-use Rattle.memory.specs.Word.{if◌then◌else◌}
+use Rattle.memory.specs.Word.{when◌then◌else◌}
 use Rattle.settings.specs.declared.Interlace.{Interlace}
 use Rattle.settings.specs.declared.Interlace.TheVariants.{Progressive, RepeatField, Video}
 use Rattle.settings.specs.declared.Field.{Field}
@@ -13,7 +13,7 @@ use Rattle.settings.specs.Timing.{timing}
 
 -- field n after enable, n from 0
 abbrev pub field_at : ℕ → Field
-field_at n = if even n then Even else Odd
+field_at n = when even n then Even else Odd
 
 -- a field's parts, from the sheet
 abbrev pub parts_of : Sheet → Field → Timing

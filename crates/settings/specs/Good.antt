@@ -1,7 +1,7 @@
 -- Document 01, "Settings and memory", and document 02, §5: when settings are good.
 use Rattle.std.specs.Prelude.{ℕ, ◌-◌, ◌%◌, ◌<◌, ◌≤◌, Bool, true, ◌&&◌, ltb, leb, eqb}
 use Rattle.std.specs.Int.Bits.{bit_and}
-use Rattle.memory.specs.Word.{if◌then◌else◌, high, low}
+use Rattle.memory.specs.Word.{when◌then◌else◌, high, low}
 use Rattle.memory.specs.Reading.{Reading, ◌>>◌, check}
 use Rattle.settings.specs.declared.Interlace.{Interlace}
 use Rattle.settings.specs.declared.Interlace.TheVariants.{Progressive, RepeatField, Video}
@@ -17,7 +17,7 @@ interlace_number Video = 2
 
 -- the mode of such a number; past 2 there is none, and who reads the number refuses it
 abbrev pub interlace_of : ℕ → Interlace
-interlace_of n = if eqb n 0 then Progressive else if eqb n 1 then RepeatField else Video
+interlace_of n = when eqb n 0 then Progressive else when eqb n 1 then RepeatField else Video
 
 -- "VSW and VSD 0..63; VAL and VTOT 0..4095; HSYNC 0..255; HSD 0..511; HTC and HTD 0..1023"
 abbrev pub in_range : Settings → Bool

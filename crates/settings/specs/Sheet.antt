@@ -1,5 +1,5 @@
 -- Document 01: "The settings sheet gives these, or refusal 2".
-use Rattle.memory.specs.Word.{if◌then◌else◌}
+use Rattle.memory.specs.Word.{when◌then◌else◌}
 use Rattle.memory.specs.Reading.{fault, refusal}
 use Rattle.settings.specs.declared.Field.TheVariants.{Even, Odd}
 use Rattle.settings.specs.declared.Settings.{Settings}
@@ -20,4 +20,4 @@ sheet_of σ = record {
 
 -- a sheet's refusal has row 0 and address 0
 unfoldable pub sheet_call : Settings → SheetAnswer
-sheet_call σ = if good σ then Given (sheet_of σ) else Refused (refusal 0 (fault 2))
+sheet_call σ = when good σ then Given (sheet_of σ) else Refused (refusal 0 (fault 2))

@@ -4,7 +4,7 @@ use Rattle.std.specs.Prelude.{ℕ, false, List, [], ◌∷◌, ℤ, pos}
 use Rattle.std.specs.Int.Signed.{lt_z}
 use Rattle.std.specs.Int.{w32}
 use Rattle.std.proofs.Common.{to_z, of_z}
-use Rattle.memory.specs.Word.{if◌then◌else◌, at}
+use Rattle.memory.specs.Word.{when◌then◌else◌, at}
 use Rattle.memory.specs.Address.{nothing}
 use Rattle.windows.specs.declared.WindowInHand.TheVariants as InHand
 use Rattle.state.specs.declared.State.{State}
@@ -88,5 +88,5 @@ below_state σ m shift soft latch cells list answer State-in.Unfit = beside_done
 
 unfoldable pub beside_from : Settings → List ℕ → ℤ → PointerWords → ℕ → List ℕ → List ℕ → List ℕ → List ℕ → BesideDone
 beside_from σ m shift soft latch state cells list answer =
-    if lt_z (pos 0) shift then below_state σ m shift soft latch cells list answer (state_in state)
+    when lt_z (pos 0) shift then below_state σ m shift soft latch cells list answer (state_in state)
     else after_beside answer (beside_listed σ m shift soft latch no_state cells list)

@@ -6,7 +6,7 @@ use Prim.Native.Nat.{ℕ, zero, suc, ◌+◌, ◌<◌, ◌≤◌}
 use native.Mathlib.Omega.{arith}
 use lib.Dec.{eqb}
 use borrow.Author.Tests.{eqb-true, eqb-false}
-use Rattle.memory.specs.Word.{if◌then◌else◌, at}
+use Rattle.memory.specs.Word.{when◌then◌else◌, at}
 use Rattle.memory.proofs.ReadBounds.{both, if-cases}
 use Rattle.codes.specs.Attribute.{ignores}
 use Rattle.joining.specs.declared.Part.{Part}
@@ -65,8 +65,8 @@ part-listed : (number row address from sets word : ℕ) → number ≤ limit →
 part-listed number row address from sets word l h = by (eqb number 0) h
   where
     by : (t : Bool)
-        → (if t then eqb row 0 && eqb address 0 && eqb from 0 && (yes sets || eqb word 0) else of_effect number && (eqb number 7 || eqb from 0) && eqb sets 0 && eqb word 0) ≡ true
-        → Listed (if t then (if yes sets then Set word else Keep) else Refuse (record { number = number; row = row; address = address; from = from }))
+        → (when t then eqb row 0 && eqb address 0 && eqb from 0 && (yes sets || eqb word 0) else of_effect number && (eqb number 7 || eqb from 0) && eqb sets 0 && eqb word 0) ≡ true
+        → Listed (when t then (when yes sets then Set word else Keep) else Refuse (record { number = number; row = row; address = address; from = from }))
     by true h = if-cases Listed (yes sets) (λ _. tt) (λ _. tt)
     by false h =
         let e = (both _ (eqb sets 0) (both _ (eqb word 0) h).0).0 in

@@ -7,7 +7,7 @@ use native.Mathlib.Omega.{arith}
 use lib.ListN.{length, get_or, set}
 use lib.Dec.{ltb, eqb}
 use borrow.Author.Tests.{lt-ltb, le-ltb, ltb-true, eqb-true, not-true}
-use Rattle.memory.specs.Word.{if◌then◌else◌}
+use Rattle.memory.specs.Word.{when◌then◌else◌}
 use Rattle.memory.specs.declared.Fetch.TheVariants.{Word, Absent}
 use Rattle.memory.specs.Address.{null}
 use Rattle.memory.specs.Reading.{Reading, done, each, fetch, given}
@@ -43,7 +43,7 @@ not-both f t = let z : ◌≡◌ {A = ℕ} 0 1 = cc in absurd (omega arith)
 pub stands_word : (m : List ℕ) (a : ℕ) → stands m a ≡ true → (a / 2 < length m) × (latches (get_or m (a / 2) 0) ≡ true)
 stands_word m a h = let k = turn (ltb (a / 2) (length m)) (get_or m (a / 2) 0) h in (ltb-true (a / 2) (length m) k.0, k.1)
   where
-    turn : (b : Bool) (v : ℕ) → standing (if b then Word v else Absent) ≡ true → (b ≡ true) × (latches v ≡ true)
+    turn : (b : Bool) (v : ℕ) → standing (when b then Word v else Absent) ≡ true → (b ≡ true) × (latches v ≡ true)
     turn true v h = (refl, h)
     turn false v h = let z : ◌≡◌ {A = ℕ} 0 1 = cc in absurd (omega arith)
 
@@ -63,7 +63,7 @@ module _ (flag : Bool) (m : List ℕ) (g : Segment) (h : sure_segment flag m g �
   unfolding sure_list
   sure-words k = turn flag (null g.attributes) (eqb (code_count g) 0) (stands m g.attributes.address) _ in_list k
     where
-      turn : (flag off empty st run : Bool) → off || (if flag then empty && st else run) ≡ true → not off && not empty ≡ true → run ≡ true
+      turn : (flag off empty st run : Bool) → off || (when flag then empty && st else run) ≡ true → not off && not empty ≡ true → run ≡ true
       turn flag true empty st run h k = let z : ◌≡◌ {A = ℕ} 0 1 = cc in absurd (omega arith)
       turn true false true st run h k = let z : ◌≡◌ {A = ℕ} 0 1 = cc in absurd (omega arith)
       turn true false false st run h k = let z : ◌≡◌ {A = ℕ} 0 1 = cc in absurd (omega arith)
@@ -78,7 +78,7 @@ module _ (flag : Bool) (m : List ℕ) (g : Segment) (h : sure_segment flag m g �
       (stands m l.next.address) in_list (λ e. ap (λ (x : AttributeList). x.present) (same e))
       (λ e. ap (λ (x : AttributeList). stands m x.next.address) (same e)) k
     where
-      turn : (flag off empty st run present st' : Bool) → off || (if flag then empty && st else run) ≡ true
+      turn : (flag off empty st run present st' : Bool) → off || (when flag then empty && st else run) ≡ true
           → (not off && not empty ≡ false → present ≡ not off) → (not off && not empty ≡ false → st' ≡ st) → flag && present ≡ true
           → st' ≡ true
       turn false off empty st run present st' h p s k = let z : ◌≡◌ {A = ℕ} 0 1 = cc in absurd (omega arith)
@@ -141,7 +141,7 @@ module _ (n : ℕ) (m l : List ℕ) (linear hidden : Bool) (on : Side) (count : 
   turn = segment_in linear count ws i
 
   pub side-more : {k : ℕ} {e : B} {l₁ : List ℕ} → i < count.number
-      → noting n m l (if on_side on at (width hidden turn) then f turn d else done d) ≡ noted (given k e) l₁
+      → noting n m l (when on_side on at (width hidden turn) then f turn d else done d) ≡ noted (given k e) l₁
       → noting n m l (each f (segments_on on hidden at (segments_past linear count ws i)) d)
       ≡ noting k m l₁ (each f (segments_on on hidden (at + width hidden turn) (segments_past linear count ws (i + 1))) e)
   side-more h e = ap (noting n m l) (side.each_of n m linear hidden on count ws at i f d h) ∙ noting-bind n m l _ _ e

@@ -2,7 +2,7 @@
 -- list is that of a segment without codes, its fill word there with bit 15, and the segments leave no cell after them. What the functions
 -- of this crate give, no rules of their own: a row that is not sure may still be accepted.
 use Rattle.std.specs.Prelude.{ℕ, ◌+◌, ◌/◌, Bool, true, false, ◌&&◌, ◌||◌, not, List, [], ◌∷◌, length, eqb}
-use Rattle.memory.specs.Word.{if◌then◌else◌}
+use Rattle.memory.specs.Word.{when◌then◌else◌}
 use Rattle.memory.specs.declared.Fetch.{Fetch}
 use Rattle.memory.specs.declared.Fetch.TheVariants.{Word, Absent}
 use Rattle.memory.specs.Address.{null}
@@ -25,7 +25,7 @@ module _ (flag : Bool) (m : List ℕ) where
   -- a segment's codes are there; so are as many words of its list, or without codes its fill word
   unfoldable pub sure_list : Segment → Bool
   sure_list g =
-      if flag then eqb (code_count g) 0 && stands m g.attributes.address else is_run true (length m) g.attributes.address (code_count g)
+      when flag then eqb (code_count g) 0 && stands m g.attributes.address else is_run true (length m) g.attributes.address (code_count g)
 
   unfoldable pub sure_segment : Segment → Bool
   sure_segment g = is_run true (length m) g.codes.address ((code_count g + 1) / 2) && (null g.attributes || sure_list g)

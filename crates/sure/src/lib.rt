@@ -2,7 +2,7 @@
 // Rows that no reading of their cells refuses: told before a cell is drawn, and drawn with the addresses of their words noted as they
 // are read. So nothing has to be put back, and no word is looked at again for its address.
 ghost use Rattle.std.specs.Prelude.{◌≡◌, true, false, ◌&&◌, not, ◌+◌, ◌*◌, ◌/◌, ◌≤◌, ◌<◌, length, eqb};
-ghost use Rattle.memory.specs.Word.{if◌then◌else◌};
+ghost use Rattle.memory.specs.Word.{when◌then◌else◌};
 ghost use Rattle.memory.specs.Reading.{done, each, given};
 ghost use Rattle.memory.specs.Answers.{is_run};
 ghost use Rattle.blocks.specs.RowBlock.{segments_of};
@@ -249,9 +249,9 @@ fn draw_chosen(
     cells: &mut [u32],
     list: &mut [u32],
 ) -> Reached
-    requires { (pen.column + (if chosen then width settings.hidden g else 0) ≤ length cells.old) × (words ≤ 4000000000) × (settings.linear ≡ true) × (sure_segment fill.flag mem.now g ≡ true) }
-    ensures column_value { (result.pen.column ≡ pen.column + (if chosen then width settings.hidden g else 0)) × (result.words ≤ words + 512) }
-    ensures cells_value { noting words mem.now list.old (if chosen then segment settings fill source g (so_far pen cells.old) else done (so_far pen cells.old)) ≡ noted (given result.words (so_far result.pen cells.new)) list.new }
+    requires { (pen.column + (when chosen then width settings.hidden g else 0) ≤ length cells.old) × (words ≤ 4000000000) × (settings.linear ≡ true) × (sure_segment fill.flag mem.now g ≡ true) }
+    ensures column_value { (result.pen.column ≡ pen.column + (when chosen then width settings.hidden g else 0)) × (result.words ≤ words + 512) }
+    ensures cells_value { noting words mem.now list.old (when chosen then segment settings fill source g (so_far pen cells.old) else done (so_far pen cells.old)) ≡ noted (given result.words (so_far result.pen cells.new)) list.new }
 {
     if chosen {
         draw_segment(mem, settings, fill, source, g, pen, words, cells, list)

@@ -1,7 +1,7 @@
 -- The calls of a console: what each leaves in the slices that it was lent, and its status. Status 0 is an accepted call, 255 one
 -- whose slices have the wrong length or a number that no field can have; others are the refusals' numbers of document 01.
 use Rattle.std.specs.Prelude.{ℕ, ◌&&◌, List, length, eqb}
-use Rattle.memory.specs.Word.{if◌then◌else◌}
+use Rattle.memory.specs.Word.{when◌then◌else◌}
 use Rattle.settings.specs.declared.Settings.{Settings}
 use Rattle.settings.specs.Sheet.{sheet_call}
 use Rattle.listed.specs.Listed.{start_listed, row_listed}
@@ -21,7 +21,7 @@ sheet_from answer (Settings-in.Fit σ) = after_sheet answer (sheet_call σ)
 sheet_from answer Settings-in.Unfit = answered 255 answer
 
 unfoldable pub host_sheet : List ℕ → List ℕ → Answered
-host_sheet settings answer = if eqb (length answer) 21 then sheet_from answer (settings_in settings) else answered 255 answer
+host_sheet settings answer = when eqb (length answer) 21 then sheet_from answer (settings_in settings) else answered 255 answer
 
 -- a start; the list is document 02's, of any length
 abbrev pub start_from : List ℕ → ℕ → List ℕ → List ℕ → List ℕ → SettingsIn → StatedListed
@@ -30,7 +30,7 @@ start_from m latch state list answer Settings-in.Unfit = stated_listed 255 state
 
 unfoldable pub host_start : List ℕ → List ℕ → ℕ → List ℕ → List ℕ → List ℕ → StatedListed
 host_start settings m latch state list answer =
-    if eqb (length state) 23 && eqb (length answer) 4
+    when eqb (length state) 23 && eqb (length answer) 4
     then start_from m latch state list answer (settings_in settings)
     else stated_listed 255 state list answer
 
@@ -45,7 +45,7 @@ row_with m state cells list answer Settings-in.Unfit = drawn_listed 255 state ce
 
 unfoldable pub host_row : List ℕ → List ℕ → List ℕ → List ℕ → List ℕ → List ℕ → DrawnListed
 host_row settings m state cells list answer =
-    if eqb (length answer) 8 then row_with m state cells list answer (settings_in settings) else drawn_listed 255 state cells list answer
+    when eqb (length answer) 8 then row_with m state cells list answer (settings_in settings) else drawn_listed 255 state cells list answer
 
 -- the latch that a frame hands on
 abbrev pub latch_from : ℕ → List ℕ → StateIn → Answered
@@ -53,4 +53,4 @@ latch_from latch answer (State-in.Fit s) = answered 0 (one_number (latch_after l
 latch_from latch answer State-in.Unfit = answered 255 answer
 
 unfoldable pub host_latch : ℕ → List ℕ → List ℕ → Answered
-host_latch latch state answer = if eqb (length answer) 4 then latch_from latch answer (state_in state) else answered 255 answer
+host_latch latch state answer = when eqb (length answer) 4 then latch_from latch answer (state_in state) else answered 255 answer

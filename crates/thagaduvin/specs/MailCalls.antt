@@ -1,6 +1,6 @@
 -- The calls of a console on a row's text; their statuses are those of Calls, with document 02's 23 and 24.
 use Rattle.std.specs.Prelude.{ℕ, List, length, eqb}
-use Rattle.memory.specs.Word.{if◌then◌else◌}
+use Rattle.memory.specs.Word.{when◌then◌else◌}
 use Rattle.numbers.specs.declared.decode.SettingsIn.{SettingsIn}
 use Rattle.numbers.specs.declared.decode.SettingsIn.TheVariants as Settings-in
 use Rattle.numbers.specs.Decode.{settings_in}
@@ -15,8 +15,8 @@ write_from cells text answer Settings-in.Unfit = lent 255 text answer
 
 unfoldable pub host_write_mail : List ℕ → List ℕ → List ℕ → List ℕ → Lent
 host_write_mail settings cells text answer =
-    if eqb (length answer) 1 then write_from cells text answer (settings_in settings) else lent 255 text answer
+    when eqb (length answer) 1 then write_from cells text answer (settings_in settings) else lent 255 text answer
 
 -- the reader
 unfoldable pub host_read_mail : List ℕ → List ℕ → List ℕ → Lent
-host_read_mail text cells answer = if eqb (length answer) 1 then after_read answer (read_mail text cells) else lent 255 cells answer
+host_read_mail text cells answer = when eqb (length answer) 1 then after_read answer (read_mail text cells) else lent 255 cells answer

@@ -1,7 +1,7 @@
 -- The call of a console that converts. Status 0 is an accepted call, 255 one whose settings or answer have the wrong length; others are
 -- the refusals' numbers. The number of marks is judged by refusal 22; what they hold is free.
 use Rattle.std.specs.Prelude.{ℕ, List, [], ◌∷◌, length, set, eqb}
-use Rattle.memory.specs.Word.{if◌then◌else◌}
+use Rattle.memory.specs.Word.{when◌then◌else◌}
 use Rattle.memory.specs.declared.Refusal.{Refusal}
 use Rattle.settings.specs.declared.Settings.{Settings}
 use Rattle.numbers.specs.declared.decode.SettingsIn.{SettingsIn}
@@ -36,4 +36,4 @@ convert_with settings m marks latch answer Settings-in.Unfit = left 255 settings
 -- of settings, memory, the number of marks, the latch and the answer
 unfoldable pub host_convert : List ℕ → List ℕ → ℕ → ℕ → List ℕ → Left
 host_convert settings m marks latch answer =
-    if eqb (length answer) 4 then convert_with settings m marks latch answer (settings_in settings) else left 255 settings m answer
+    when eqb (length answer) 4 then convert_with settings m marks latch answer (settings_in settings) else left 255 settings m answer

@@ -1,7 +1,7 @@
 -- The calls of a console on effects of rows. Status 0 is an accepted call, 255 one whose slices have the wrong length or a number that no
 -- field can have; others are the refusals' numbers.
 use Rattle.std.specs.Prelude.{ℕ, List, length, eqb}
-use Rattle.memory.specs.Word.{if◌then◌else◌}
+use Rattle.memory.specs.Word.{when◌then◌else◌}
 use Rattle.settings.specs.declared.Settings.{Settings}
 use Rattle.joining.specs.declared.Effect.{Effect}
 use Rattle.effect.specs.Effect.{effect_call}
@@ -28,7 +28,7 @@ effect_with m state effect Settings-in.Unfit = stated 255 state effect
 
 unfoldable pub host_effect : List ℕ → List ℕ → List ℕ → List ℕ → Stated
 host_effect settings m state effect =
-    if eqb (length effect) 12 then effect_with m state effect (settings_in settings) else stated 255 state effect
+    when eqb (length effect) 12 then effect_with m state effect (settings_in settings) else stated 255 state effect
 
 -- two effects joined
 abbrev pub join_from : List ℕ → Effect → EffectIn → Answered
@@ -41,7 +41,7 @@ join_with second joined Effect-in.Unfit = answered 255 joined
 
 unfoldable pub host_join : List ℕ → List ℕ → List ℕ → Answered
 host_join first second joined =
-    if eqb (length joined) 12 then join_with second joined (effect_in first) else answered 255 joined
+    when eqb (length joined) 12 then join_with second joined (effect_in first) else answered 255 joined
 
 -- an effect applied to a latch
 abbrev pub apply_from : ℕ → List ℕ → EffectIn → Answered
@@ -50,4 +50,4 @@ apply_from latch answer Effect-in.Unfit = answered 255 answer
 
 unfoldable pub host_apply : List ℕ → ℕ → List ℕ → Answered
 host_apply effect latch answer =
-    if eqb (length answer) 4 then apply_from latch answer (effect_in effect) else answered 255 answer
+    when eqb (length answer) 4 then apply_from latch answer (effect_in effect) else answered 255 answer

@@ -1,7 +1,7 @@
 -- The call of a console that mends. Status 0 is an accepted call, 255 one whose slices have the wrong length; others are the refusals'
 -- numbers.
 use Rattle.std.specs.Prelude.{ℕ, List, [], ◌∷◌, length, set, eqb}
-use Rattle.memory.specs.Word.{if◌then◌else◌}
+use Rattle.memory.specs.Word.{when◌then◌else◌}
 use Rattle.numbers.specs.declared.decode.SettingsIn.{SettingsIn}
 use Rattle.numbers.specs.declared.decode.SettingsIn.TheVariants as Settings-in
 use Rattle.numbers.specs.Decode.{settings_in}
@@ -41,4 +41,4 @@ mend_with settings m latch answer Settings-in.Unfit = left 255 settings m answer
 
 unfoldable pub host_mend : List ℕ → List ℕ → ℕ → List ℕ → Left
 host_mend settings m latch answer =
-    if eqb (length answer) 8 then mend_with settings m latch answer (settings_in settings) else left 255 settings m answer
+    when eqb (length answer) 8 then mend_with settings m latch answer (settings_in settings) else left 255 settings m answer

@@ -1,6 +1,6 @@
 -- A console that mends: it calls until a call makes no change, each time with the slices as the call before left them.
 use Rattle.std.specs.Prelude.{ℕ, zero, suc, ◌<◌, ◌≡◌, Bool, false, ◌&&◌, not, List, [], ◌∷◌, map, length, get_or, eqb}
-use Rattle.memory.specs.Word.{if◌then◌else◌, at}
+use Rattle.memory.specs.Word.{when◌then◌else◌, at}
 use Rattle.numbers.specs.declared.decode.SettingsIn.TheVariants.{Fit}
 use Rattle.numbers.specs.Decode.{settings_at, settings_in}
 use Rattle.answers.specs.Changing.{Left, left}
@@ -19,7 +19,7 @@ pub record Loop : Type 0 where
 abbrev pub by_call : (List ℕ → List ℕ → List ℕ → Loop) → Left → Loop
 by_call rest l =
     let d = rest l.settings l.memory l.answer in
-    if changed l then record { changes = l.answer ∷ d.changes; last = d.last } else record { changes = []; last = l }
+    when changed l then record { changes = l.answer ∷ d.changes; last = d.last } else record { changes = []; last = l }
 
 -- n calls at most
 unfoldable pub calls : ℕ → ℕ → List ℕ → List ℕ → List ℕ → Loop

@@ -1,7 +1,7 @@
 -- The calls of a console on a soft scroll. Status 0 is an accepted call, 255 one whose slices have the wrong length or a number that no
 -- field can have; others are the refusals' numbers.
 use Rattle.std.specs.Prelude.{ℕ, ◌&&◌, List, ℤ, length, eqb}
-use Rattle.memory.specs.Word.{if◌then◌else◌}
+use Rattle.memory.specs.Word.{when◌then◌else◌}
 use Rattle.settings.specs.declared.PointerWords.{PointerWords}
 use Rattle.scroll.specs.Scroll.{shift_call}
 use Rattle.numbers.specs.declared.decode.SettingsIn.{SettingsIn}
@@ -17,7 +17,7 @@ shift_from m soft scroll answer Settings-in.Unfit = stated 255 scroll answer
 
 unfoldable pub host_shift : List ℕ → List ℕ → PointerWords → List ℕ → List ℕ → Stated
 host_shift settings m soft scroll answer =
-    if eqb (length scroll) 3 && eqb (length answer) 5
+    when eqb (length scroll) 3 && eqb (length answer) 5
     then shift_from m soft scroll answer (settings_in settings)
     else stated 255 scroll answer
 
@@ -28,6 +28,6 @@ beside_with m shift soft latch state cells list answer Settings-in.Unfit = besid
 
 unfoldable pub host_beside : List ℕ → List ℕ → ℤ → PointerWords → ℕ → List ℕ → List ℕ → List ℕ → List ℕ → BesideDone
 host_beside settings m shift soft latch state cells list answer =
-    if eqb (length answer) 8
+    when eqb (length answer) 8
     then beside_with m shift soft latch state cells list answer (settings_in settings)
     else beside_done 255 cells list answer

@@ -7,7 +7,7 @@ use native.Mathlib.Omega.{arith}
 use lib.ListN.{length}
 use lib.Dec.{eqb, ltb}
 use borrow.Author.Tests.{ltb-false}
-use Rattle.memory.specs.Word.{if◌then◌else◌, at}
+use Rattle.memory.specs.Word.{when◌then◌else◌, at}
 use Rattle.memory.specs.declared.Fault.{Fault}
 use Rattle.memory.specs.declared.Refusal.{Refusal}
 use Rattle.memory.specs.Reading.{Reading, Outcome, refused, run, refusal, fault}
@@ -133,8 +133,8 @@ module _ (settings m : List ℕ) (marks latch : ℕ) (answer : List ℕ) where
   -- the call, by its three tests
   abbrev call : (σ : Settings) (a b c : Bool) → Called
   call σ a b c =
-      if a
-      then (if b then (if c then kept m (refusal 0 (fault 26)) else convert_by σ m (follow latch σ m)) else kept m (refusal 0 (fault 2)))
+      when a
+      then (when b then (when c then kept m (refusal 0 (fault 26)) else convert_by σ m (follow latch σ m)) else kept m (refusal 0 (fault 2)))
       else kept m (refusal 0 (fault 22))
 
   call-reads : (σ : Settings) → Converted (after_call settings (convert_call latch σ m marks))

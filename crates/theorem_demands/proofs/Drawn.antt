@@ -6,7 +6,7 @@ use Prim.Native.Nat.{ℕ, ◌+◌, ◌%◌, ◌<◌}
 use native.Mathlib.Omega.{arith}
 use lib.ListN.{length}
 use lib.Dec.{eqb}
-use Rattle.memory.specs.Word.{if◌then◌else◌, at, low}
+use Rattle.memory.specs.Word.{when◌then◌else◌, at, low}
 use Rattle.memory.specs.declared.Fault.{Fault}
 use Rattle.memory.specs.Reading.{Outcome, given, refused, run_from, run, asked, done, refusal, fault, ◌>>=◌}
 use Rattle.memory.proofs.Laws.{bind-given, bind-refused, step_given, step-refused, run-done}

@@ -7,7 +7,7 @@ use native.Mathlib.Omega.{arith}
 use lib.ListN.{length}
 use lib.Dec.{eqb, leb}
 use borrow.Author.Tests.{eqb-true, eqb-false}
-use Rattle.memory.specs.Word.{if◌then◌else◌, at}
+use Rattle.memory.specs.Word.{when◌then◌else◌, at}
 use Rattle.memory.proofs.ReadBounds.{both, if-cases}
 use Rattle.joining.specs.declared.Part.{Part}
 use Rattle.joining.specs.declared.Part.TheVariants.{Keep, Set, Refuse}
@@ -40,14 +40,14 @@ pub record Back (number row address from sets word : ℕ) (p : Part) : Type 0 wh
 
 -- a part that keeps or sets: what it does not use is 0
 plain : (row address from sets word : ℕ) → sets ≤ 1 → word ≤ 65535 → eqb row 0 && eqb address 0 && eqb from 0 && (yes sets || eqb word 0) ≡ true
-    → Back 0 row address from sets word (if yes sets then Set word else Keep)
+    → Back 0 row address from sets word (when yes sets then Set word else Keep)
 plain row address from sets word s w h =
     let a = both (eqb row 0 && eqb address 0 && eqb from 0) (yes sets || eqb word 0) h in
     let b = both (eqb row 0 && eqb address 0) (eqb from 0) a.0 in
     let c = both (eqb row 0) (eqb address 0) b.0 in
     rw (eqb-true row 0 c.0, eqb-true address 0 c.1, eqb-true from 0 b.1) (by (yes sets) refl a.1)
   where
-    by : (t : Bool) → yes sets ≡ t → t || eqb word 0 ≡ true → Back 0 0 0 0 sets word (if t then Set word else Keep)
+    by : (t : Bool) → yes sets ≡ t → t || eqb word 0 ≡ true → Back 0 0 0 0 sets word (when t then Set word else Keep)
     by true e k = rw (eqb-true sets 1 e) (record { numbered = refl; in_row = refl; told = refl; begins = refl; setting = refl; becomes = refl; fits = w })
     by false e k =
         let none : sets ≡ 0 = omega (arith, s, eqb-false sets 1 e) in
@@ -68,9 +68,9 @@ part-back : (number row address from sets word : ℕ) → number ≤ 17 → row 
 part-back number row address from sets word n r a f s w h = by (eqb number 0) refl h
   where
     by : (t : Bool) → eqb number 0 ≡ t
-        → (if t then eqb row 0 && eqb address 0 && eqb from 0 && (yes sets || eqb word 0) else of_effect number && (eqb number 7 || eqb from 0) && eqb sets 0 && eqb word 0) ≡ true
+        → (when t then eqb row 0 && eqb address 0 && eqb from 0 && (yes sets || eqb word 0) else of_effect number && (eqb number 7 || eqb from 0) && eqb sets 0 && eqb word 0) ≡ true
         → Back number row address from sets word
-        (if t then (if yes sets then Set word else Keep) else Refuse (record { number = number; row = row; address = address; from = from }))
+        (when t then (when yes sets then Set word else Keep) else Refuse (record { number = number; row = row; address = address; from = from }))
     by true e k = rw (eqb-true number 0 e) (plain row address from sets word s w k)
     by false e k = refusing number row address from sets word n r a f k
 

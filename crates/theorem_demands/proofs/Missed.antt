@@ -8,7 +8,7 @@ use native.Mathlib.Omega.{arith}
 use lib.ListN.{length, get_or, drop, get_or-append}
 use lib.Dec.{ltb}
 use borrow.Author.Tests.{ltb-true}
-use Rattle.memory.specs.Word.{if◌then◌else◌, at}
+use Rattle.memory.specs.Word.{when◌then◌else◌, at}
 use Rattle.memory.specs.declared.Fault.{Fault}
 use Rattle.memory.specs.Reading.{Reading, done, refuse, ask, absent, Outcome, given, refused, run_from, run, asked}
 use Rattle.listed.specs.Listed.{written}
@@ -29,9 +29,9 @@ asked-inside n m (ask q f) {k} {a} e i h =
     turn : (t : Bool) → ltb (q.address / 2) (length m) ≡ t
         → (run_from (n + 1) m (f (get_or m (q.address / 2) 0)) ≡ given k a
         → Inside m (length (asked m (f (get_or m (q.address / 2) 0)))) (asked m (f (get_or m (q.address / 2) 0))))
-        → (if t then run_from (n + 1) m (f (get_or m (q.address / 2) 0)) else refused (absent q)) ≡ given k a
-        → Inside m (suc (length (if t then asked m (f (get_or m (q.address / 2) 0)) else [])))
-        (q.address ∷ (if t then asked m (f (get_or m (q.address / 2) 0)) else []))
+        → (when t then run_from (n + 1) m (f (get_or m (q.address / 2) 0)) else refused (absent q)) ≡ given k a
+        → Inside m (suc (length (when t then asked m (f (get_or m (q.address / 2) 0)) else [])))
+        (q.address ∷ (when t then asked m (f (get_or m (q.address / 2) 0)) else []))
     turn true b g e zero h = ltb-true (q.address / 2) (length m) b
     turn true b g e (suc i) h = g e i (omega (arith, h))
     turn false b g e i h = let z : ◌≡◌ {A = ℕ} 0 1 = cc in absurd (omega arith)

@@ -8,7 +8,7 @@ use native.Mathlib.Omega.{arith}
 use lib.IntN.{ℤ}
 use lib.ListN.{length}
 use lib.Dec.{eqb, leb, ltb}
-use Rattle.memory.specs.Word.{if◌then◌else◌, at}
+use Rattle.memory.specs.Word.{when◌then◌else◌, at}
 use Rattle.memory.specs.Reading.{refusal, fault}
 use Rattle.memory.proofs.ReadBounds.{if-cases}
 use Rattle.settings.specs.declared.Settings.{Settings}
@@ -130,18 +130,18 @@ module _ (effect : List ℕ) (latch : ℕ) (answer : List ℕ) where
   part-tells l row (Set w) h e = accepted-tells _ _
   part-tells l row (Refuse r) h e = refused-tells refl l r e h
 
-  pub apply-tells : Applied (at effect (if ignores latch then 7 else 1)) (host_apply effect latch answer)
+  pub apply-tells : Applied (at effect (when ignores latch then 7 else 1)) (host_apply effect latch answer)
   unfolding host_apply
   apply-tells =
       if-cases (Applied _) (eqb (length answer) 4)
       (λ e. by (room 4 answer e (omega arith)) (effect_in effect) (effect-listed effect) (rows_are effect)) (λ _. none-tells)
     where
       for : 3 ≤ length answer → (t : Bool) (e : Effect) → BothListed (Effect-in.Fit e) → RowsAre effect (Effect-in.Fit e)
-          → Applied (at effect (if t then 7 else 1)) (after_apply answer (apply_part (part_for t e) latch))
+          → Applied (at effect (when t then 7 else 1)) (after_apply answer (apply_part (part_for t e) latch))
       for l false e h k = part-tells l _ e.clear h.0 k.0
       for l true e h k = part-tells l _ e.set h.1 k.1
 
-      by : 3 ≤ length answer → (e : EffectIn) → BothListed e → RowsAre effect e → Applied (at effect (if ignores latch then 7 else 1)) (apply_from latch answer e)
+      by : 3 ≤ length answer → (e : EffectIn) → BothListed e → RowsAre effect e → Applied (at effect (when ignores latch then 7 else 1)) (apply_from latch answer e)
       by l (Effect-in.Fit e) h k = for l (ignores latch) e h k
       by l Effect-in.Unfit h k = none-tells
 

@@ -9,7 +9,7 @@ use lib.Signed.{lt_z}
 use lib.ListN.{length}
 use lib.Dec.{eqb}
 use borrow.Author.Tests.{eqb-true}
-use Rattle.memory.specs.Word.{if◌then◌else◌, at}
+use Rattle.memory.specs.Word.{when◌then◌else◌, at}
 use Rattle.memory.specs.Reading.{Outcome, given, refused, run, refusal}
 use Rattle.memory.proofs.ReadBounds.{both, if-cases}
 use Rattle.settings.specs.declared.PointerWords.{PointerWords}
@@ -84,7 +84,7 @@ pub read-state : (xs : List ℕ) {s : State} → state_in xs ≡ State-in.Fit s 
 unfolding state_in
 read-state xs {s} e = by (is_state xs) e
   where
-    by : (t : Bool) → (if t then State-in.Fit (state_at xs) else State-in.Unfit) ≡ State-in.Fit s → s ≡ state_at xs
+    by : (t : Bool) → (when t then State-in.Fit (state_at xs) else State-in.Unfit) ≡ State-in.Fit s → s ≡ state_at xs
     by true e = cc
     by false e = let z : ◌≡◌ {A = ℕ} 0 1 = cc in absurd (omega arith)
 
@@ -123,7 +123,7 @@ module _ (settings m : List ℕ) (shift : ℤ) (soft : PointerWords) (latch : �
   BesideOf number x = Reads number Refusals.beside_numbers (cells ∷ list ∷ []) answer m (at x.answer 7) x.list (of_beside x)
 
   abbrev pub Beside : BesideDone → Type 0
-  Beside x = BesideOf (if lt_z (pos 0) shift then at state 1 else 0) x
+  Beside x = BesideOf (when lt_z (pos 0) shift then at state 1 else 0) x
 
   beside-by : {number : ℕ} {x : BesideListed} → 3 ≤ length answer → BesideEnds m number cells list x
       → within (Refusals.of_beside x.answer) Refusals.beside_numbers ≡ true → BesideOf number (after_beside answer x)
@@ -132,7 +132,7 @@ module _ (settings m : List ℕ) (shift : ℤ) (soft : PointerWords) (latch : �
   beside-by l (beside-refused r e k) h = refused-reads refl refl l r e (one r.number Refusals.beside_numbers h) k
   beside-by l (beside-drawn d b xs i) h = accepted-reads _ _ i
 
-  from-state : 3 ≤ length answer → (σ : Settings) (s : State) {number : ℕ} → (if lt_z (pos 0) shift then s.fields.row else 0) ≡ number
+  from-state : 3 ≤ length answer → (σ : Settings) (s : State) {number : ℕ} → (when lt_z (pos 0) shift then s.fields.row else 0) ≡ number
       → BesideOf number (after_beside answer (beside_listed σ m shift soft latch s cells list))
   from-state l σ s q =
       let x = beside_listed σ m shift soft latch s cells list in
@@ -151,8 +151,8 @@ module _ (settings m : List ℕ) (shift : ℤ) (soft : PointerWords) (latch : �
   beside-reads = if-cases Beside (eqb (length answer) 8) (λ e. by (room 8 answer e (omega arith)) (settings_in settings)) (λ _. none_reads)
     where
       way : 3 ≤ length answer → (σ : Settings) (t : Bool) → lt_z (pos 0) shift ≡ t
-          → BesideOf (if t then at state 1 else 0)
-          (if t then below_state σ m shift soft latch cells list answer (state_in state) else after_beside answer (beside_listed σ m shift soft latch no_state cells list))
+          → BesideOf (when t then at state 1 else 0)
+          (when t then below_state σ m shift soft latch cells list answer (state_in state) else after_beside answer (beside_listed σ m shift soft latch no_state cells list))
       way l σ true t = up t l σ (state_in state) refl
       way l σ false t = down t l σ
 

@@ -9,7 +9,7 @@ use lib.IntN.{ℤ, pos}
 use lib.Signed.{lt_z}
 use lib.ListN.{length, get_or}
 use lib.Dec.{eqb}
-use Rattle.memory.specs.Word.{if◌then◌else◌}
+use Rattle.memory.specs.Word.{when◌then◌else◌}
 use Rattle.memory.specs.declared.Refusal.{Refusal}
 use Rattle.memory.specs.Reading.{Reading, done, refuse, ask, Outcome, given, refused, run_from, run, asked, fault, refusal, ◌>>=◌}
 use Rattle.memory.proofs.Laws.{after, run-after, bind-given, bind-refused}
@@ -155,14 +155,14 @@ module _ (σ : Settings) (m : List ℕ) (latch : ℕ) (cells list : List ℕ) wh
       (λ _. beside-refused _ refl (λ q. absurd (omega (arith, q)))))
 
 pub beside-ends : (σ : Settings) (m : List ℕ) (shift : ℤ) (soft : PointerWords) (latch : ℕ) (last : State) (cells list : List ℕ)
-    → BesideEnds m (if lt_z (pos 0) shift then last.fields.row else 0) cells list (beside_listed σ m shift soft latch last cells list)
+    → BesideEnds m (when lt_z (pos 0) shift then last.fields.row else 0) cells list (beside_listed σ m shift soft latch last cells list)
 unfolding beside_listed below_listed
 beside-ends σ m shift soft latch last cells list = by (lt_z (pos 0) shift)
   where
     down : BesideListed
-    down = if lt_z shift (pos 0) then above_listed (with_top σ soft) m latch cells list else beside_with Beside.Absent cells list
+    down = when lt_z shift (pos 0) then above_listed (with_top σ soft) m latch cells list else beside_with Beside.Absent cells list
 
-    by : (t : Bool) → BesideEnds m (if t then last.fields.row else 0) cells list
-        (if t then told_listed (row_listed σ m (state_of last.latch (with_one_line last.fields)) cells list) else down)
+    by : (t : Bool) → BesideEnds m (when t then last.fields.row else 0) cells list
+        (when t then told_listed (row_listed σ m (state_of last.latch (with_one_line last.fields)) cells list) else down)
     by true = below (row_ends σ m (state_of last.latch (with_one_line last.fields)) cells list)
     by false = if-cases (BesideEnds m 0 cells list) (lt_z shift (pos 0)) (λ _. above-ends (with_top σ soft) m latch cells list) (λ _. no_row)

@@ -3,7 +3,7 @@
 -- not give back is lent to be read, and stays.
 use Rattle.std.specs.Prelude.{ℕ, ◌/◌, ◌<◌, ◌≤◌, ◌≡◌, true, List, [], ◌∷◌, ℤ, pos, length, drop}
 use Rattle.std.specs.Int.Signed.{lt_z}
-use Rattle.memory.specs.Word.{if◌then◌else◌, at}
+use Rattle.memory.specs.Word.{when◌then◌else◌, at}
 use Rattle.memory.specs.Reading.{given, run, asked}
 use Rattle.settings.specs.declared.PointerWords.{PointerWords}
 use Rattle.settings.specs.declared.Settings.{Settings}
@@ -131,11 +131,11 @@ pub record Demand1 : Type 0 where
   pub join : (first second joined : List ℕ) → Kept [] [] joined (of_answer (host_join first second joined))
   -- the refusal of an effect's part, which has its row
   pub apply : (effect : List ℕ) (latch : ℕ) (answer : List ℕ)
-      → Tells (at effect (if ignores latch then 7 else 1)) Refusals.effect_numbers [] answer (of_answer (host_apply effect latch answer))
+      → Tells (at effect (when ignores latch then 7 else 1)) Refusals.effect_numbers [] answer (of_answer (host_apply effect latch answer))
   pub shift : (settings m : List ℕ) (soft : PointerWords) (scroll answer : List ℕ)
       → Tells 0 Refusals.shift_numbers (scroll ∷ []) answer (of_state (host_shift settings m soft scroll answer))
   pub beside : (settings m : List ℕ) (shift : ℤ) (soft : PointerWords) (latch : ℕ) (state cells list answer : List ℕ)
-      → Tells (if lt_z (pos 0) shift then at state 1 else 0) Refusals.beside_numbers (cells ∷ list ∷ []) answer
+      → Tells (when lt_z (pos 0) shift then at state 1 else 0) Refusals.beside_numbers (cells ∷ list ∷ []) answer
       (of_beside (host_beside settings m shift soft latch state cells list answer))
   -- a line and its cells read no memory: a line is accepted or 255, its cells accepted or 1
   pub line : (shift : ℤ) (above : ℕ) (heights : List ℕ) (rows y : ℕ) (answer : List ℕ)

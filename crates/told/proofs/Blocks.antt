@@ -7,7 +7,7 @@ use native.Mathlib.Omega.{arith}
 use lib.ListN.{drop}
 use lib.Dec.{ltb, leb, lit<}
 use Rattle.memory.specs.declared.Pointer.{Pointer}
-use Rattle.memory.specs.Word.{if◌then◌else◌, bit, at}
+use Rattle.memory.specs.Word.{when◌then◌else◌, bit, at}
 use Rattle.memory.specs.Reading.{Reading, ◌>>=◌, read_as, one_pointer}
 use Rattle.memory.specs.Address.{nothing, null, ahead, further, words}
 use Rattle.settings.specs.declared.Settings.{Settings}
@@ -58,7 +58,7 @@ module _ (σ : Settings) (m : List ℕ) where
         segments = segments-stand (ahead σ.linear k p.address) (at head 2 % 16) gs d.copied;
       })
 
-  rest-tells : (p : Pointer) (head : List ℕ) (b : Bool) → Passed σ m p 3 head → Says Linked (rest_of_block σ.linear p head (if b then 2 else 0))
+  rest-tells : (p : Pointer) (head : List ℕ) (b : Bool) → Passed σ m p 3 head → Says Linked (rest_of_block σ.linear p head (when b then 2 else 0))
   unfolding rest_of_block words read_as ◌>>=◌ ahead
   rest-tells p head true h =
       bind (as-holds (λ _ _ h. h) (λ _ _ _ h. h) one_pointer (words-tell σ m 2 (further σ.linear 3 p) h.after)) λ re d.

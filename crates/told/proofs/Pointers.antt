@@ -10,7 +10,7 @@ use lib.Dec.{ltb}
 use borrow.Author.Tests.{ltb-true, ltb-false}
 use Rattle.memory.specs.declared.Fetch.TheVariants.{Word}
 use Rattle.memory.specs.declared.Pointer.{Pointer}
-use Rattle.memory.specs.Word.{if◌then◌else◌, at}
+use Rattle.memory.specs.Word.{when◌then◌else◌, at}
 use Rattle.memory.specs.Reading.{◌>>=◌, fetch}
 use Rattle.memory.specs.Address.{pointer, null, next_word, ahead, onward, further, words}
 use Rattle.memory.proofs.ReadBounds.{if-cases}
@@ -24,13 +24,13 @@ use Rattle.told.proofs.Tells.{apart, Tells}
 
 -- a pointer begins where its first word was read, unless it is null
 begins-at : (linear : Bool) (from first second : ℕ)
-    → (pointer linear from first second).from ≡ (if null (pointer linear from first second) then 0 else from)
+    → (pointer linear from first second).from ≡ (when null (pointer linear from first second) then 0 else from)
 unfolding pointer
 begins-at true from first second = refl
 begins-at false from first second = refl
 
 begins : (linear : Bool) (from first second : ℕ) → null (pointer linear from first second) ≡ false → (pointer linear from first second).from ≡ from
-begins linear from first second e = begins-at linear from first second ∙ ap (λ (b : Bool). if b then 0 else from) e
+begins linear from first second e = begins-at linear from first second ∙ ap (λ (b : Bool). when b then 0 else from) e
 
 -- "0 when a register held it"
 pub register-begins : (linear : Bool) (w : PointerWords) → (registered linear w).from ≡ 0

@@ -9,7 +9,7 @@ use borrow.Author.Tests.{eq-eqb}
 use Rattle.memory.specs.declared.Fault.{Fault}
 use Rattle.memory.specs.declared.Fetch.TheVariants.{Word, Absent}
 use Rattle.memory.specs.declared.Pointer.{Pointer}
-use Rattle.memory.specs.Word.{if◌then◌else◌}
+use Rattle.memory.specs.Word.{when◌then◌else◌}
 use Rattle.memory.specs.Reading.{Ask, Reading, fetch, Outcome, given, refused, run_from}
 use Rattle.memory.proofs.ReadBounds.{if-cases}
 use Rattle.holding.proofs.Holds.{Holds, dones, refuses, asks}

@@ -7,7 +7,7 @@ use native.Mathlib.Omega.{arith}
 use lib.ListN.{length, take, drop}
 use lib.Seq.{take-append_seam}
 use lib.Dec.{eqb}
-use Rattle.memory.specs.Word.{if◌then◌else◌}
+use Rattle.memory.specs.Word.{when◌then◌else◌}
 use Rattle.memory.specs.Reading.{Outcome, given, refused, fault, refusal, run, asked}
 use Rattle.memory.proofs.Agree.{All, none, SameWord}
 use Rattle.settings.specs.declared.Settings.{Settings}
@@ -42,14 +42,14 @@ module _ (σ : Settings) (s : State) (buffer list m : List ℕ) where
   -- the call, by the two tests on its buffers
   abbrev tried : Bool → Bool → RowListed
   tried t u =
-      let c : Called = if t then answered σ s.fields buffer (run m (row σ s)) else called (Row.Refused (refusal s.fields.row (fault 1))) buffer in
-      if t
-      then (if u then called_with c (list_after m (row σ s) list) else row_with (Row.Refused (refusal s.fields.row (fault 25))) buffer list)
+      let c : Called = when t then answered σ s.fields buffer (run m (row σ s)) else called (Row.Refused (refusal s.fields.row (fault 1))) buffer in
+      when t
+      then (when u then called_with c (list_after m (row σ s) list) else row_with (Row.Refused (refusal s.fields.row (fault 25))) buffer list)
       else called_with c list
 
   -- .. and one refused 1 or 25 reads nothing
   by_size : (P : ℕ → Type 0) (r : DrawnRow) (t u : Bool) → (tried t u).answer ≡ Row.Accepted r
-      → ((a : ℕ) → a ∈ take r.words (tried t u).list → P a) → All P (if t && u then words_read m (row σ s) else [])
+      → ((a : ℕ) → a ∈ take r.words (tried t u).list → P a) → All P (when t && u then words_read m (row σ s) else [])
   by_size P r true true e h =
       every (words_read m (row σ s)) λ a i. h a (subst (λ (l : List ℕ). a ∈ l) (read-list (run m (row σ s)) refl r e) i)
   by_size P r true false e h = none

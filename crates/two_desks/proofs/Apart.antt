@@ -9,7 +9,7 @@ use lib.ListN.{length, get_or, set, length-set}
 use lib.Seq.{get_or-set_same, get_or-set_other}
 use lib.Dec.{eqb}
 use borrow.Author.Tests.{eqb-true, eqb-false}
-use Rattle.memory.specs.Word.{if◌then◌else◌}
+use Rattle.memory.specs.Word.{when◌then◌else◌}
 use Rattle.memory.proofs.Agree.{All, SameWord}
 use Rattle.state.specs.declared.State.{State}
 use Rattle.writer.specs.declared.Span.{Span}
@@ -81,8 +81,8 @@ module _ (span : Span) where
     where
       by-test : (t u : Bool) → may_write own a (length m₁) ≡ u
           → Apart
-          (if t then wrote (refused_with 16) m₁ else if u then wrote Written (set m₁ (a / 2) w) else wrote (refused_with 15) m₁).memory
-          (if t then wrote (refused_with 16) m₂ else if u then wrote Written (set m₂ (a / 2) w) else wrote (refused_with 15) m₂).memory
+          (when t then wrote (refused_with 16) m₁ else when u then wrote Written (set m₁ (a / 2) w) else wrote (refused_with 15) m₁).memory
+          (when t then wrote (refused_with 16) m₂ else when u then wrote Written (set m₂ (a / 2) w) else wrote (refused_with 15) m₂).memory
       by-test true u e = h
       by-test false true e = set_both (a / 2) w (may-inside own a (length m₁) e).within h
       by-test false false e = h
@@ -143,13 +143,13 @@ module _ (spans : Spans) (d : Desk) where
 
   -- .. on the first memory if `t`, on the second if not
   call_same : (t : Bool) {m₁ m₂ : List ℕ} → Apart (spans (other d)) m₁ m₂ → (s : State) (c : Call)
-      → Clear (spans (other d)) (if t then read_by m₁ s c else read_by m₂ s c) → outcome spans d m₁ s c ≡ outcome spans d m₂ s c
+      → Clear (spans (other d)) (when t then read_by m₁ s c else read_by m₂ s c) → outcome spans d m₁ s c ≡ outcome spans d m₂ s c
   call_same true h s c k = call-first h s c k
   call_same false h s c k = sym (call-first (apart-back (spans (other d)) h) s c k)
 
   -- a list of outcomes begins with one: its addresses, then those of the others
-  clear_first : (t : Bool) (o₁ o₂ : Outcome) (l₁ l₂ : List Outcome) → Clear (spans (other d)) (reads (if t then o₁ ∷ l₁ else o₂ ∷ l₂))
-      → Clear (spans (other d)) (if t then o₁.reads else o₂.reads) × Clear (spans (other d)) (reads (if t then l₁ else l₂))
+  clear_first : (t : Bool) (o₁ o₂ : Outcome) (l₁ l₂ : List Outcome) → Clear (spans (other d)) (reads (when t then o₁ ∷ l₁ else o₂ ∷ l₂))
+      → Clear (spans (other d)) (when t then o₁.reads else o₂.reads) × Clear (spans (other d)) (reads (when t then l₁ else l₂))
   unfolding reads
   clear_first true o₁ o₂ l₁ l₂ h = (all_left o₁.reads (reads l₁) h, all_right o₁.reads (reads l₁) h)
   clear_first false o₁ o₂ l₁ l₂ h = (all_left o₂.reads (reads l₂) h, all_right o₂.reads (reads l₂) h)
@@ -157,7 +157,7 @@ module _ (spans : Spans) (d : Desk) where
   -- what the desk gets from here on, in turn on m₁ and alone on m₂; its addresses are clear: in turn if `t`, alone if not
   abbrev Same : Bool → List Action → Type 0
   Same t l = (m₁ m₂ : List ℕ) (s₁ s₂ : States) → Apart (spans (other d)) m₁ m₂ → s₁ d ≡ s₂ d
-      → Clear (spans (other d)) (reads (if t then gets d (in_turn spans m₁ s₁ l) else in_turn spans m₂ s₂ (alone d l)))
+      → Clear (spans (other d)) (reads (when t then gets d (in_turn spans m₁ s₁ l) else in_turn spans m₂ s₂ (alone d l)))
       → gets d (in_turn spans m₁ s₁ l) ≡ in_turn spans m₂ s₂ (alone d l)
 
   own_turn : (t : Bool) (c : Call) (l : List Action) → Same t l → Same t (record { desk = d; call = c } ∷ l)
@@ -184,7 +184,7 @@ module _ (spans : Spans) (d : Desk) where
 
   -- both begin with one memory and one pair of states
   pub begins : (t : Bool) (m : List ℕ) (states : States) (l : List Action)
-      → ClearOf (spans (other d)) (reads (if t then gets d (in_turn spans m states l) else in_turn spans m states (alone d l)))
+      → ClearOf (spans (other d)) (reads (when t then gets d (in_turn spans m states l) else in_turn spans m states (alone d l)))
       → gets d (in_turn spans m states l) ≡ in_turn spans m states (alone d l)
   begins t m states l h = in-turn t l m m states states (record { size = refl; words = λ i e. refl }) refl (every _ h)
 

@@ -7,7 +7,7 @@ use lib.IntN.{ℤ, pos}
 use lib.Signed.{lt_z}
 use lib.ListN.{length, set}
 use lib.Dec.{eqb}
-use Rattle.memory.specs.Word.{if◌then◌else◌}
+use Rattle.memory.specs.Word.{when◌then◌else◌}
 use Rattle.memory.specs.Reading.{Reading, ◌>>=◌}
 use Rattle.memory.proofs.Agree.{All, SameWord}
 use Rattle.settings.specs.declared.PointerWords.{PointerWords}
@@ -32,13 +32,13 @@ use Rattle.two_desks.specs.DeskCalls.{Call, sized, read_by, answer}
 
 -- what is read where a test holds
 module _ {A : Type 0} {P : ℕ → Type 0} (x y z : A) (l : List ℕ) (same : All P l → x ≡ y) where
-  pub if-read : (t : Bool) → All P (if t then l else []) → (if t then x else z) ≡ (if t then y else z)
+  pub if-read : (t : Bool) → All P (when t then l else []) → (when t then x else z) ≡ (when t then y else z)
   if-read true h = same h
   if-read false h = refl
 
   -- .. two tests, one after the other
-  pub if-both : (t u : Bool) (o₁ o₂ : A) → (t ≡ false → o₁ ≡ o₂) → All P (if t && u then l else [])
-      → (if t then (if u then x else z) else o₁) ≡ (if t then (if u then y else z) else o₂)
+  pub if-both : (t u : Bool) (o₁ o₂ : A) → (t ≡ false → o₁ ≡ o₂) → All P (when t && u then l else [])
+      → (when t then (when u then x else z) else o₁) ≡ (when t then (when u then y else z) else o₂)
   if-both true true o₁ o₂ k h = same h
   if-both true false o₁ o₂ k h = refl
   if-both false u o₁ o₂ k h = k refl
@@ -57,7 +57,7 @@ module _ (m₁ m₂ : List ℕ) (len : length m₁ ≡ length m₂) where
   list_same p list h =
       ap₂ (λ o l. unless_refused o l list) (read-outcome m₁ m₂ len p h 0) (read_asked m₁ m₂ len p h)
 
-  start-same : (latch : ℕ) (σ : Settings) (list : List ℕ) → All (SameWord m₁ m₂) (if eqb (length list) 12000 then words_read m₁ (start_from latch σ) else [])
+  start-same : (latch : ℕ) (σ : Settings) (list : List ℕ) → All (SameWord m₁ m₂) (when eqb (length list) 12000 then words_read m₁ (start_from latch σ) else [])
       → start_listed latch σ m₁ list ≡ start_listed latch σ m₂ list
   unfolding start_listed start_call
   start-same latch σ list =
@@ -94,8 +94,8 @@ module _ (m₁ m₂ : List ℕ) (len : length m₁ ≡ length m₂) where
     where
       by-shift : (t u : Bool) (k l : List ℕ) (x₁ x₂ y₁ y₂ z : BesideListed)
           → (All (SameWord m₁ m₂) (sized buffer list k) → x₁ ≡ x₂) → (All (SameWord m₁ m₂) (sized buffer list l) → y₁ ≡ y₂)
-          → All (SameWord m₁ m₂) (sized buffer list (if t then k else if u then l else []))
-          → (if t then x₁ else if u then y₁ else z) ≡ (if t then x₂ else if u then y₂ else z)
+          → All (SameWord m₁ m₂) (sized buffer list (when t then k else when u then l else []))
+          → (when t then x₁ else when u then y₁ else z) ≡ (when t then x₂ else when u then y₂ else z)
       by-shift true u k l x₁ x₂ y₁ y₂ z f g h = f h
       by-shift false true k l x₁ x₂ y₁ y₂ z f g h = g h
       by-shift false false k l x₁ x₂ y₁ y₂ z f g h = refl
@@ -106,8 +106,8 @@ module _ (m₁ m₂ : List ℕ) (len : length m₁ ≡ length m₂) where
   write_same own other a w = rw len (by-test (share own other) (may_write own a (length m₂)))
     where
       by-test : (t u : Bool)
-          → (if t then wrote (refused_with 16) m₁ else if u then wrote Written (set m₁ (a / 2) w) else wrote (refused_with 15) m₁).answer
-          ≡ (if t then wrote (refused_with 16) m₂ else if u then wrote Written (set m₂ (a / 2) w) else wrote (refused_with 15) m₂).answer
+          → (when t then wrote (refused_with 16) m₁ else when u then wrote Written (set m₁ (a / 2) w) else wrote (refused_with 15) m₁).answer
+          ≡ (when t then wrote (refused_with 16) m₂ else when u then wrote Written (set m₂ (a / 2) w) else wrote (refused_with 15) m₂).answer
       by-test true u = refl
       by-test false true = refl
       by-test false false = refl
@@ -123,8 +123,8 @@ module _ (m₁ m₂ : List ℕ) (len : length m₁ ≡ length m₂) where
   answer-same own other s (Calls.write a w) h = ap Calls.wrote (write_same own other a w)
 
   -- what is read where a test holds
-  read-if : (t : Bool) (l₁ l₂ : List ℕ) → (All (SameWord m₁ m₂) l₁ → l₁ ≡ l₂) → All (SameWord m₁ m₂) (if t then l₁ else [])
-      → (if t then l₁ else []) ≡ (if t then l₂ else [])
+  read-if : (t : Bool) (l₁ l₂ : List ℕ) → (All (SameWord m₁ m₂) l₁ → l₁ ≡ l₂) → All (SameWord m₁ m₂) (when t then l₁ else [])
+      → (when t then l₁ else []) ≡ (when t then l₂ else [])
   read-if true l₁ l₂ f h = f h
   read-if false l₁ l₂ f h = refl
 

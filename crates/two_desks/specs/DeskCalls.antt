@@ -1,6 +1,6 @@
 -- The calls of a desk: what each answers on the memory that it finds, which words it reads, and what it leaves.
 use Rattle.std.specs.Prelude.{ℕ, ◌&&◌, List, [], ℤ, length, eqb}
-use Rattle.memory.specs.Word.{if◌then◌else◌}
+use Rattle.memory.specs.Word.{when◌then◌else◌}
 use Rattle.settings.specs.declared.PointerWords.{PointerWords}
 use Rattle.settings.specs.declared.Settings.{Settings}
 use Rattle.state.specs.declared.State.{State}
@@ -39,10 +39,10 @@ pub data Answer : Type 0 where
 
 -- the addresses of the words that a call reads: none where 1 or 25 refuses it
 abbrev pub sized : (buffer list : List ℕ) → List ℕ → List ℕ
-sized buffer list addresses = if eqb (length buffer) 132 && eqb (length list) 12000 then addresses else []
+sized buffer list addresses = when eqb (length buffer) 132 && eqb (length list) 12000 then addresses else []
 
 unfoldable pub read_by : List ℕ → State → Call → List ℕ
-read_by m s (start σ latch list) = if eqb (length list) 12000 then words_read m (start_from latch σ) else []
+read_by m s (start σ latch list) = when eqb (length list) 12000 then words_read m (start_from latch σ) else []
 read_by m s (row σ buffer list) = sized buffer list (words_read m (Rows.row σ s))
 read_by m s (shift σ soft last) = words_read m (Scrolls.shift σ soft last)
 read_by m s (beside σ z soft latch buffer list) = sized buffer list (beside_read σ m z soft latch s)

@@ -1,7 +1,7 @@
 -- Two desks on one memory: the statement. Document 02: "A supervisor's screen now shares display memory with the forecaster's, each with its
 -- own settings and state. Either desk may write words. Prove what the other relies on".
 use Rattle.std.specs.Prelude.{ℕ, ◌*◌, ◌/◌, ◌≡◌, Bool, true, false, List, [], ◌∷◌, ◌++◌, length}
-use Rattle.memory.specs.Word.{if◌then◌else◌}
+use Rattle.memory.specs.Word.{when◌then◌else◌}
 use Rattle.settings.specs.declared.Settings.{Settings}
 use Rattle.state.specs.declared.State.{State}
 use Rattle.writer.specs.declared.Span.{Span}
@@ -34,7 +34,7 @@ abbrev pub States : Type 0
 States = Desk → State
 
 abbrev pub with_state : States → Desk → State → States
-with_state states d s e = if is d e then s else states e
+with_state states d s e = when is d e then s else states e
 
 -- an action: a desk makes a call. A list of them has the calls of both desks, in whatever order they come
 pub record Action : Type 0 where
@@ -62,12 +62,12 @@ module _ (spans : Spans) where
 -- the actions of one desk, as if the other made none
 unfoldable pub alone : Desk → List Action → List Action
 alone d [] = []
-alone d (a ∷ rest) = if is d a.desk then a ∷ alone d rest else alone d rest
+alone d (a ∷ rest) = when is d a.desk then a ∷ alone d rest else alone d rest
 
 -- what one desk gets
 unfoldable pub gets : Desk → List Outcome → List Outcome
 gets d [] = []
-gets d (o ∷ rest) = if is d o.desk then o ∷ gets d rest else gets d rest
+gets d (o ∷ rest) = when is d o.desk then o ∷ gets d rest else gets d rest
 
 -- the addresses of all words that its calls read
 unfoldable pub reads : List Outcome → List ℕ

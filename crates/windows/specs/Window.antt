@@ -1,6 +1,6 @@
 -- Document 01, "Blocks" and "A row, left to right": window blocks, and the window in hand.
 use Rattle.std.specs.Prelude.{ℕ, ◌+◌, Bool, ◌&&◌, List, [], ◌∷◌, ltb, leb}
-use Rattle.memory.specs.Word.{if◌then◌else◌, high, low, at}
+use Rattle.memory.specs.Word.{when◌then◌else◌, high, low, at}
 use Rattle.memory.specs.declared.Pointer.{Pointer}
 use Rattle.memory.specs.Reading.{Role, First, Second, Reading, done, ◌>>=◌, ◌>>◌, read_as, check_of}
 use Rattle.memory.specs.Address.{pointer, null, ahead, words}
@@ -36,7 +36,7 @@ in_order b = leb b.top b.bottom && leb b.left b.right && leb b.right 131
 -- Refusal 8: "first row > last, first row <= the last row of the one before, first column > last, last column > 131". The
 -- row after the last row of the one before is `least`, 0 where there is none.
 unfoldable pub window_at : Bool → ℕ → ℕ → Pointer → Reading WindowInHand
-window_at linear number least p = if null p then done Absent else do
+window_at linear number least p = when null p then done Absent else do
   b ← read_as two_pointers (words linear 6 p)
   let w = window_of linear number p.address b
   check_of 8 p (in_order w.block && leb least w.block.top)
@@ -50,6 +50,6 @@ first_window linear p = window_at linear 0 0 p
 unfoldable pub due_window : Bool → ℕ → WindowInHand → Reading WindowInHand
 due_window linear row Absent = done Absent
 due_window linear row (Present w) =
-    if ltb w.block.bottom row
+    when ltb w.block.bottom row
     then window_at linear (w.block.number + 1) (w.block.bottom + 1) w.block.link
     else done (Present w)

@@ -8,7 +8,7 @@ use lib.Dec.{leb}
 use borrow.Author.Tests.{eqb-true, leb-true, leb-false, ltb-true, le-leb}
 use native.Mathlib.Nat.{le_refl}
 use native.Mathlib.Omega.{arith}
-use Rattle.memory.specs.Word.{if◌then◌else◌}
+use Rattle.memory.specs.Word.{when◌then◌else◌}
 use Rattle.memory.proofs.ReadBounds.{both}
 use Rattle.writer.specs.declared.Span.{Span}
 use Rattle.writer.specs.declared.WriteAnswer.TheVariants.{Written}
@@ -54,12 +54,12 @@ module _ (m : List ℕ) (own other : Span) (a w : ℕ) where
   changed = by-share (share own other)
     where
       by-write : (t : Bool) → may_write own a (length m) ≡ t
-          → Changed (if t then wrote Written (set m (a / 2) w) else wrote (refused_with 15) m).memory
+          → Changed (when t then wrote Written (set m (a / 2) w) else wrote (refused_with 15) m).memory
       by-write true e = word (may-inside own a (length m) e)
       by-write false e = same
 
       by-share : (t : Bool)
-          → Changed (if t then wrote (refused_with 16) m else if may_write own a (length m) then wrote Written (set m (a / 2) w) else wrote (refused_with 15) m).memory
+          → Changed (when t then wrote (refused_with 16) m else when may_write own a (length m) then wrote Written (set m (a / 2) w) else wrote (refused_with 15) m).memory
       by-share true = same
       by-share false = by-write (may_write own a (length m)) refl
 
@@ -85,7 +85,7 @@ module _ (s t : Span) where
 
   -- the larger of the first addresses
   pub larger : ℕ
-  larger = if leb s.first t.first then t.first else s.first
+  larger = when leb s.first t.first then t.first else s.first
 
   pub share-both : share s t ≡ true → (inside s larger ≡ true) × (inside t larger ≡ true)
   unfolding larger
@@ -100,7 +100,7 @@ module _ (s t : Span) where
       by_order (leb s.first t.first) refl a b c d
     where
       by_order : (u : Bool) → leb s.first t.first ≡ u → s.first ≤ s.last → s.first ≤ t.last → t.first ≤ s.last → t.first ≤ t.last
-          → (inside s (if u then t.first else s.first) ≡ true) × (inside t (if u then t.first else s.first) ≡ true)
+          → (inside s (when u then t.first else s.first) ≡ true) × (inside t (when u then t.first else s.first) ≡ true)
       by_order true e a b c d =
           let l = leb-true s.first t.first e in
           (both_hold (le-leb _ _ l) (le-leb _ _ c), both_hold (le-leb _ _ (le_refl t.first)) (le-leb _ _ d))

@@ -1,6 +1,6 @@
 -- Document 02, "Two desks on one memory": "A writer call takes both desks' spans, first to last address, and refuses outside the writer's."
 use Rattle.std.specs.Prelude.{ℕ, ◌/◌, ◌%◌, Bool, ◌&&◌, List, length, set, eqb, leb, ltb}
-use Rattle.memory.specs.Word.{if◌then◌else◌}
+use Rattle.memory.specs.Word.{when◌then◌else◌}
 use Rattle.memory.specs.Reading.{fault, refusal}
 use Rattle.writer.specs.declared.Span.{Span}
 use Rattle.writer.specs.declared.WriteAnswer.{WriteAnswer}
@@ -34,8 +34,8 @@ refused_with n = Refused (refusal 0 (fault n))
 -- "15, write to an odd address or outside the desk's span or memory, nothing written; 16, spans that share an address, before 15"
 unfoldable pub write_word : List ℕ → Span → Span → ℕ → ℕ → Wrote
 write_word m own other a w =
-    if share own other then wrote (refused_with 16) m
-    else if may_write own a (length m) then wrote Written (set m (a / 2) w)
+    when share own other then wrote (refused_with 16) m
+    else when may_write own a (length m) then wrote Written (set m (a / 2) w)
     else wrote (refused_with 15) m
 
 -- the number that a console is told: 0 for a word written, else the refusal's

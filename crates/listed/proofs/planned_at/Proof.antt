@@ -7,7 +7,7 @@ use native.Mathlib.Omega.{arith}
 use lib.ListN.{length}
 use lib.Seq.{sets}
 use lib.Dec.{lit<}
-use Rattle.memory.specs.Word.{if◌then◌else◌}
+use Rattle.memory.specs.Word.{when◌then◌else◌}
 use Rattle.memory.specs.Reading.{run, asked}
 use Rattle.memory.proofs.ReadBounds.{Words}
 use Rattle.blocks.specs.RowBlock.{segments_of}
@@ -83,8 +83,8 @@ returns-2 c =
     let cells : Bool → List ℕ =
     λ l. asked m (row_cells (code_settings σ) f.fill (o l) (segments_of l a.p.count a.back.now) (blank s.latch)) in
     let written : List ℕ → List ℕ =
-    λ k. sets k a.at (if certain then block_addresses σ.linear m f (o σ.linear) else row_addresses (code_settings σ) m f (o σ.linear) (segments_of σ.linear a.p.count a.back.now) buffer) in
-    let list = put ∙ ap written drawn.1.1 ∙ ap (λ (l : Bool). written (if certain then sets a.list.now (a.at + a.p.words) (cells l) else a.list.now)) (sym straight) in
+    λ k. sets k a.at (when certain then block_addresses σ.linear m f (o σ.linear) else row_addresses (code_settings σ) m f (o σ.linear) (segments_of σ.linear a.p.count a.back.now) buffer) in
+    let list = put ∙ ap written drawn.1.1 ∙ ap (λ (l : Bool). written (when certain then sets a.list.now (a.at + a.p.words) (cells l) else a.list.now)) (sym straight) in
     (drawn.0.0, (drawn.1.0, row-placed σ m s pre.0.1 certain a.at a.list.now _ _ is list))
 
 pub planned-at-spec : {M : Type 1} → statement M

@@ -8,21 +8,21 @@ use lib.ListN.{length, get_or, get_or-eq_default}
 use lib.Dec.{ltb}
 use borrow.Author.Tests.{ltb-false}
 use Rattle.memory.specs.declared.Fetch.TheVariants.{Word, Absent}
-use Rattle.memory.specs.Word.{if◌then◌else◌}
+use Rattle.memory.specs.Word.{when◌then◌else◌}
 use Rattle.memory.specs.Reading.{fetch}
 use Rattle.addresses.specs.Addresses.{word_in}
 use borrow.Author.Rules.{rules}
 use Rattle.addresses.proofs.consecutive.word_in.Statement.{statement}
 use Rattle.addresses.proofs.consecutive.word_in.Tie as tie
 
-there : (b : Bool) (v w : ℕ) → Word w ≡ (if b then Word v else Absent) → w ≡ v
+there : (b : Bool) (v w : ℕ) → Word w ≡ (when b then Word v else Absent) → w ≡ v
 there true v w e = cc
 there false v w e = let q : true ≡ false = cc in cc
 
 gone : (m : List ℕ) (a : ℕ) → Absent ≡ fetch m a → 0 ≡ word_in m a
 gone m a e = by (ltb (a / 2) (length m)) refl e
   where
-    by : (b : Bool) → ltb (a / 2) (length m) ≡ b → Absent ≡ (if b then Word (word_in m a) else Absent) → 0 ≡ word_in m a
+    by : (b : Bool) → ltb (a / 2) (length m) ≡ b → Absent ≡ (when b then Word (word_in m a) else Absent) → 0 ≡ word_in m a
     by true h e = cc
     by false h e = sym (get_or-eq_default m 0 (omega (arith, ltb-false (a / 2) (length m) h)))
 
