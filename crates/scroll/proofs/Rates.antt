@@ -1,7 +1,6 @@
 -- The rate rule, once over all sixteen rates, and the calls that a scroll takes.
-use mathlib.Core.Path.{◌≡◌, refl, ap, sym, ◌∙◌}
-use mathlib.Core.Bool.{Bool, true, false}
-use Prim.Native.Nat.{ℕ, zero, suc, ◌+◌, ◌-◌, ◌*◌, ◌/◌, ◌%◌, ◌≤◌, ◌<◌}
+use mathlib.Core.Path.{◌≡◌, ap, ◌∙◌}
+use Prim.Native.Nat.{ℕ, ◌+◌, ◌-◌, ◌*◌, ◌/◌, ◌%◌, ◌≤◌, ◌<◌}
 use native.Mathlib.Nat.{div-add-mod', mod-lt, div-eq_of_lt-le, div-eq_of_eq-mul_left, div-lt_iff_lt-mul, le-div_iff_mul-le, lt-div-mul-add, mul-div_cancel, add-mul, mul-one, div-one}
 use native.Mathlib.Omega.{arith}
 use lib.Dec.{leb, ltb}

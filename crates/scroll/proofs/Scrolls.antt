@@ -6,24 +6,20 @@ use Prim.Native.Nat.{ℕ, zero, suc, ◌+◌, ◌%◌, ◌≤◌, ◌<◌}
 use native.Mathlib.Nat.{mod-lt, zero-div, zero-mod, zero-mul}
 use native.Mathlib.Numerals.{add-one}
 use native.Mathlib.Omega.{arith}
-use lib.IntN.{ℤ, pos, negsuc, neg_ℤ}
-use lib.Dec.{leb, eqb}
+use lib.IntN.{pos}
 use borrow.Author.Tests.{eq-eqb, ne_eqb, le-leb, lt-leb}
 use Rattle.memory.specs.Reading.{given, run}
-use Rattle.memory.proofs.Laws.{check-passed, bind-given, run-done}
 use Rattle.settings.specs.declared.PointerWords.{PointerWords}
 use Rattle.settings.specs.declared.Settings.{Settings}
 use Rattle.settings.specs.Good.{check_settings}
 use Rattle.blocks.specs.declared.MainBlock.{MainBlock}
 use Rattle.start.specs.Top.{enabled, upward, rate_number, top_block}
-use Rattle.scroll.specs.declared.Rate.{Rate}
 use Rattle.scroll.specs.declared.Offset.{Offset}
 use Rattle.scroll.specs.declared.Scroll.{Scroll}
-use Rattle.scroll.specs.declared.FrameShift.{FrameShift}
 use Rattle.scroll.specs.declared.ShiftAnswer.{ShiftAnswer}
 use Rattle.scroll.specs.declared.ShiftAnswer.TheVariants.{Accepted, Refused}
 use Rattle.scroll.specs.Rate.{rate}
-use Rattle.scroll.specs.Scroll.{direction_of, in_range, from_last, moved, shifted, still, reached, edge_lines, shift_by, shift_from, shift, shift_answered, shift_call}
+use Rattle.scroll.specs.Scroll.{direction_of, in_range, from_last, moved, shifted, still, reached, edge_lines, shift_by, shift_answered, shift_call}
 use Rattle.scroll.specs.Answers.{lines_read, Small}
 use Rattle.scroll.proofs.ShiftLaws.{disabled, row_read, top_read, settings-passed, RateBounds, rate-bounds}
 use Rattle.scroll.proofs.ShiftBound.{again, lines-back}

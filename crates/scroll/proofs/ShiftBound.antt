@@ -1,13 +1,13 @@
 -- A shift call reads at most 97 words: two main blocks, a row block and a redefinition. What it gives passes the next call's check 3: the
 -- shift is within 31 of 0, its sign fits the direction given, and the phase is at most 7. An enabled call's is below the row's scan lines.
 use mathlib.Core.Path.{◌≡◌, refl, sym, ap, ◌∙◌}
-use mathlib.Core.Bool.{Bool, true, false, ◌&&◌, ◌||◌}
+use mathlib.Core.Bool.{Bool, true, false, ◌&&◌}
 use mathlib.Core.List.{List}
 use Prim.Native.Nat.{ℕ, zero, suc, ◌+◌, ◌≤◌, ◌<◌, zero-le}
 use native.Mathlib.Omega.{arith}
-use lib.IntN.{ℤ, pos, negsuc, neg_ℤ, nat_abs}
-use lib.Dec.{lit≤, leb, ltb, eqb}
-use borrow.Author.Tests.{leb-true, leb-false, le-leb}
+use lib.IntN.{pos, neg_ℤ, nat_abs}
+use lib.Dec.{lit≤, leb}
+use borrow.Author.Tests.{leb-false, le-leb}
 use mir.Syntax.{w32}
 use mir.Val.{to_z, of_z}
 use Rattle.memory.specs.declared.Fault.{Fault}
@@ -24,16 +24,15 @@ use Rattle.blocks.specs.declared.MainBlock.{MainBlock}
 use Rattle.blocks.specs.declared.RowFormat.{RowFormat}
 use Rattle.blocks.specs.RowBlock.{redefined, format_of}
 use Rattle.blocks.proofs.BlockBounds.{row-block-reads}
-use Rattle.background.specs.Background.{BackgroundRow, background_block}
+use Rattle.background.specs.Background.{background_block}
 use Rattle.start.specs.Top.{enabled, upward, rate_number, top_block}
 use Rattle.start.proofs.StartBound.{top-reads}
-use Rattle.scroll.specs.declared.Rate.{Rate}
 use Rattle.scroll.specs.declared.Offset.{Offset}
 use Rattle.scroll.specs.declared.Scroll.{Scroll}
 use Rattle.scroll.specs.declared.FrameShift.{FrameShift}
-use Rattle.scroll.specs.declared.ShiftAnswer.TheVariants.{Accepted, Refused}
+use Rattle.scroll.specs.declared.ShiftAnswer.TheVariants.{Accepted}
 use Rattle.scroll.specs.Rate.{rate}
-use Rattle.scroll.specs.Scroll.{signed, direction_of, fits_direction, in_range, from_last, moved, shifted, still, reached, first_lines, edge_lines, shift_by, shift_from, shift, shift_answered, shift_call}
+use Rattle.scroll.specs.Scroll.{signed, fits_direction, in_range, from_last, moved, shifted, still, reached, first_lines, edge_lines, shift_by, shift_from, shift, shift_answered, shift_call}
 use Rattle.scroll.specs.Answers.{lines_read, Small}
 use Rattle.scroll.proofs.SignedLaws.{same}
 use Rattle.scroll.proofs.ShiftLaws.{in-range, from-last-small, rate-bounds, row_read, out_of_range, top_read, settings-refused, settings-passed}

@@ -1,17 +1,15 @@
 -- What a shift call comes to: a law for each way through its definitions, from what the readings in it come to.
-use mathlib.Core.Path.{◌≡◌, refl, ap, sym, ◌∙◌}
-use mathlib.Core.Bool.{Bool, true, false, not, ◌&&◌, ◌||◌}
+use mathlib.Core.Path.{◌≡◌, refl, ap, ◌∙◌}
+use mathlib.Core.Bool.{Bool, true, false, ◌&&◌, ◌||◌}
 use mathlib.Core.List.{List}
 use mathlib.Core.Logic.{◌⊎◌, inl, inr, ⊎_elim}
-use Prim.Native.Nat.{ℕ, zero, suc, ◌+◌, ◌/◌, ◌%◌, ◌≤◌, ◌<◌}
+use Prim.Native.Nat.{ℕ, ◌+◌, ◌/◌, ◌%◌, ◌≤◌, ◌<◌}
 use native.Mathlib.Omega.{arith}
 use lib.IntN.{ℤ, pos, negsuc, nat_abs}
-use lib.Signed.{le_z}
 use lib.Dec.{leb, eqb, ltb}
 use borrow.Author.Tests.{leb-true, ltb-true, ltb-false}
 use Rattle.memory.specs.declared.Fault.{Fault}
-use Rattle.memory.specs.declared.Pointer.{Pointer}
-use Rattle.memory.specs.Reading.{Reading, fault, Outcome, given, refused, run_from, run}
+use Rattle.memory.specs.Reading.{fault, Outcome, given, refused, run}
 use Rattle.memory.proofs.Laws.{check-passed, check-failed, bind-given, bind-refused, after, run-after, run-done}
 use Rattle.memory.proofs.ReadBounds.{both, if-cases}
 use Rattle.settings.specs.declared.PointerWords.{PointerWords}
@@ -25,7 +23,6 @@ use Rattle.scroll.specs.declared.Rate.{Rate}
 use Rattle.scroll.specs.declared.Offset.{Offset}
 use Rattle.scroll.specs.declared.Scroll.{Scroll}
 use Rattle.scroll.specs.declared.FrameShift.{FrameShift}
-use Rattle.scroll.specs.declared.LinesRead.{LinesRead}
 use Rattle.scroll.specs.declared.LinesRead.TheVariants.{Read, Refused}
 use Rattle.scroll.specs.Rate.{rate}
 use Rattle.scroll.specs.Scroll.{fits_direction, in_range, from_last, moved, shifted, still, reached, first_lines, edge_lines, shift_by, shift_from, shift, shift_answered}
