@@ -30,7 +30,7 @@ returns-in-Refused c =
     let a = c.args in record {
       few_words = lit< tt;
       buffer_after = rw c.refusal_of.ensures
-          (ap (called (Refused (refusal a.state.fields.row c.in-Refused.fault))) (c.copy_cells-in-Refused.ensures ∙ c.copy_cells.ensures)
+          (ap (called (Refused (refusal a.state.fields.row c.in-Refused.fault))) (cc)
           ∙ ap (answered a.settings a.state.fields a.buffer.now) (planned-refused a.settings a.mem.now a.state c.requires.1 (finish-refused _ (rw (c.in-Refused.is, c.code_settings-code.ensures) at c.draw_cells.ensures))));
     }
 
