@@ -5,7 +5,6 @@ use mathlib.Core.Bool.{Bool, true, false, ◌&&◌, not}
 use Prim.Native.Nat.{ℕ, zero, suc, ◌+◌, ◌-◌, ◌*◌, ◌%◌, ◌<◌}
 use native.Mathlib.Omega.{arith}
 use native.Mathlib.Nat.{zero-add}
-use lib.ListN.{length, get_or}
 use lib.Dec.{ltb, leb, lit<}
 use Rattle.memory.specs.Word.{when◌then◌else◌, bit, at}
 use Rattle.memory.specs.declared.Pointer.{Pointer}
@@ -18,10 +17,9 @@ use Rattle.windows.specs.declared.Window.{Window}
 use Rattle.windows.specs.declared.WindowInHand.{WindowInHand}
 use Rattle.windows.specs.declared.WindowInHand.TheVariants.{Absent, Present}
 use Rattle.windows.specs.Window.{window_of, two_pointers, in_order, window_at, first_window, due_window}
-use Rattle.blocks.specs.declared.MainBlock.{MainBlock}
 use Rattle.blocks.specs.declared.RowFormat.{RowFormat}
-use Rattle.blocks.specs.Main.{main_block, main_block_at}
-use Rattle.blocks.specs.RowBlock.{RowBlock, no_block, segment_roles, segments_from, rest_of_block, block_at, row_block_at, window_row_at, format_of, redefined}
+use Rattle.blocks.specs.Main.{main_block_at}
+use Rattle.blocks.specs.RowBlock.{RowBlock, no_block, segment_roles, rest_of_block, block_at, row_block_at, window_row_at, format_of, redefined}
 use Rattle.state.specs.declared.Fields.{Fields}
 use Rattle.state.specs.declared.State.{State}
 use Rattle.state.specs.State.{in_range}

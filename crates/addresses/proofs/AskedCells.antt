@@ -1,5 +1,5 @@
 -- The cells of an accepted row ask for the addresses of the walk: a segment has a fill run where its last cell is fill.
-use mathlib.Core.Path.{◌≡◌, refl, ap, ap₂, sym, ◌∙◌}
+use mathlib.Core.Path.{◌≡◌, refl, ap, sym, ◌∙◌}
 use mathlib.Core.List.{List, [], ◌∷◌, ◌++◌}
 use mathlib.Core.Bool.{Bool, true, false, ◌&&◌}
 use Prim.Native.Nat.{ℕ, ◌+◌, ◌-◌, ◌<◌, ◌≤◌}
@@ -8,8 +8,8 @@ use native.Mathlib.Nat.{le_refl, add-zero}
 use lib.ListN.{length, get_or, replicate, length-append, length-replicate, get_or-replicate, get_or-append}
 use lib.Seq.{get_or-append-add}
 use lib.Dec.{ltb, eqb}
-use borrow.Author.Tests.{ltb-true, ltb-false, lt-ltb, le-ltb, eq-eqb, ne_eqb}
-use Rattle.memory.specs.Reading.{◌>>=◌, each}
+use borrow.Author.Tests.{ltb-true, ltb-false, lt-ltb, ne_eqb}
+use Rattle.memory.specs.Reading.{each}
 use Rattle.memory.proofs.ReadBounds.{Words}
 use Rattle.blocks.specs.declared.FillMode.{FillMode}
 use Rattle.blocks.specs.declared.Segment.{Segment}
@@ -17,14 +17,13 @@ use Rattle.layout.specs.declared.Side.TheVariants.{Before, After}
 use Rattle.layout.specs.Layout.{width, total, Overlay, none, over, segments_on}
 use Rattle.layout.proofs.LayoutLaws.{whole-all}
 use Rattle.codes.specs.declared.CodeSettings.{CodeSettings}
-use Rattle.codes.specs.declared.AttributeList.{AttributeList}
 use Rattle.codes.specs.declared.Source.{Source}
 use Rattle.codes.specs.Attribute.{Background, Window, source_number, source_of}
 use Rattle.codes.specs.Codes.{Drawing, list_at, no_list, with_list, blank, codes}
 use Rattle.cells.specs.Cells.{code_count, fill_to, segment, segments_to, row_cells}
 use Rattle.cells.specs.Answers.{Drawable}
 use Rattle.cells.proofs.SideLaws.{around}
-use Rattle.addresses.specs.Addresses.{taken, list_after, fills, ends_in_fill, code_addresses, code_list, segment_addresses, segment_list, side_addresses, side_list, run_addresses, run_list, cell_addresses}
+use Rattle.addresses.specs.Addresses.{ends_in_fill, segment_addresses, segment_list, side_addresses, side_list, run_addresses, run_list, cell_addresses}
 use Rattle.addresses.proofs.Trace.{Trace, dones, parts, joined, trace-gives}
 use Rattle.addresses.proofs.AskedCodes.{Takes, codes-asked}
 use Rattle.addresses.proofs.AskedFill.{Grown, grown-refl, grown-append, Ink, codes-ink, Filled, fill-asked}

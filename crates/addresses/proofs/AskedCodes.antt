@@ -1,9 +1,8 @@
 -- The codes of a segment ask for the addresses of the walk, and leave the list in use that it tells.
-use mathlib.Core.Path.{◌≡◌, refl, ap, ap₂, sym, ◌∙◌}
-use mathlib.Core.List.{List, [], ◌∷◌, ◌++◌}
+use mathlib.Core.Path.{◌≡◌, refl, ap, sym, ◌∙◌}
+use mathlib.Core.List.{List, ◌∷◌, ◌++◌}
 use mathlib.Core.Bool.{Bool, true, false, ◌&&◌, ◌||◌, not}
-use Prim.Native.Nat.{ℕ, zero, suc, ◌+◌}
-use lib.ListN.{length, get_or}
+use Prim.Native.Nat.{ℕ, zero, suc}
 use lib.Dec.{ltb}
 use Rattle.memory.specs.Word.{when◌then◌else◌, high, low}
 use Rattle.memory.specs.declared.Pointer.{Pointer}
@@ -13,9 +12,9 @@ use Rattle.memory.proofs.ReadBounds.{if-cases}
 use Rattle.codes.specs.declared.CodeSettings.{CodeSettings}
 use Rattle.codes.specs.declared.AttributeList.{AttributeList}
 use Rattle.codes.specs.declared.Source.{Source}
-use Rattle.codes.specs.Attribute.{invokes, ignores}
+use Rattle.codes.specs.Attribute.{ignores}
 use Rattle.codes.specs.Codes.{Drawing, drawing, taking, put, character, examine, word_codes, codes}
-use Rattle.addresses.specs.Addresses.{word_in, taken, list_after, takes, code_after, pair_after, pair, single, code_addresses, code_list}
+use Rattle.addresses.specs.Addresses.{word_in, taken, list_after, takes, code_after, pair_after, code_addresses, code_list}
 use Rattle.addresses.proofs.Trace.{Trace, dones, asks, parts, joined, alone, trace-done}
 
 -- a character leaves the list as it was

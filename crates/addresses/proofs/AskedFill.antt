@@ -5,26 +5,24 @@ use mathlib.Core.Bool.{Bool, true, false, ◌&&◌, ◌||◌, not}
 use Prim.Native.Nat.{ℕ, zero, suc, ◌+◌, ◌-◌, ◌/◌, ◌<◌, ◌≤◌}
 use native.Mathlib.Omega.{arith}
 use native.Mathlib.Nat.{le_refl}
-use lib.ListN.{length, get_or, replicate, length-append, length-replicate, get_or-replicate, get_or-append}
-use lib.Seq.{get_or-append-add, get_or-append_seam}
-use lib.Dec.{ltb, eqb}
-use borrow.Author.Tests.{ltb-true, ltb-false, lt-ltb, le-ltb, eq-eqb, ne_eqb}
+use lib.ListN.{length, get_or, replicate, length-append, get_or-append}
+use lib.Seq.{get_or-append_seam}
+use lib.Dec.{ltb}
+use borrow.Author.Tests.{ltb-true, ltb-false}
 use Rattle.memory.specs.Word.{when◌then◌else◌, high, low}
 use Rattle.memory.specs.declared.Pointer.{Pointer}
-use Rattle.memory.specs.Reading.{Reading, done, refuse, word, ◌>>=◌, each}
+use Rattle.memory.specs.Reading.{done, refuse, ◌>>=◌, each}
 use Rattle.memory.specs.Address.{onward}
 use Rattle.memory.proofs.ReadBounds.{if-cases, both}
 use Rattle.memory.proofs.Gives.{Gives, bind, if-gives}
-use Rattle.memory.proofs.Gives as Gives
 use Rattle.blocks.specs.declared.FillMode.{FillMode}
 use Rattle.codes.specs.declared.CodeSettings.{CodeSettings}
-use Rattle.codes.specs.declared.AttributeList.{AttributeList}
 use Rattle.codes.specs.declared.Source.{Source}
 use Rattle.codes.specs.Attribute.{Fill, invokes, ignores, latches, cell, source_number, source_of}
 use Rattle.codes.specs.Codes.{Drawing, drawing, taking, put, character, examine, word_codes, codes}
 use Rattle.codes.proofs.CellParts.{source-back}
 use Rattle.cells.specs.Cells.{filled, unlatched, fill_by_word, fill_to}
-use Rattle.addresses.specs.Addresses.{taken, list_after, fills, ends_in_fill}
+use Rattle.addresses.specs.Addresses.{taken, list_after, fills}
 use Rattle.addresses.proofs.Trace.{Trace, dones, asks, no-refusal}
 
 -- more cells, the first ones as they were

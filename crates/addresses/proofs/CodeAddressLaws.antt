@@ -1,5 +1,5 @@
 -- The codes of a segment from some code on: the word in turn, and those after it; without a list, words one after the other.
-use mathlib.Core.Path.{◌≡◌, refl, ap, sym, subst, ◌∙◌}
+use mathlib.Core.Path.{◌≡◌, refl, ap, subst, ◌∙◌}
 use mathlib.Core.List.{List, [], ◌∷◌, ◌++◌}
 use mathlib.Core.Bool.{Bool, true, false, ◌&&◌}
 use Prim.Native.Nat.{ℕ, zero, suc, ◌+◌, ◌-◌, ◌/◌, ◌<◌}
@@ -11,7 +11,7 @@ use Rattle.codes.specs.declared.CodeSettings.{CodeSettings}
 use Rattle.codes.specs.declared.AttributeList.{AttributeList}
 use Rattle.codes.specs.Attribute.{invokes}
 use Rattle.noting.specs.Noting.{in_turn}
-use Rattle.addresses.specs.Addresses.{word_in, taken, list_after, takes, code_after, pair, pair_after, single, code_addresses, code_list}
+use Rattle.addresses.specs.Addresses.{word_in, list_after, takes, code_after, pair, pair_after, single, code_addresses, code_list}
 
 module _ (σ : CodeSettings) (m : List ℕ) (left : ℕ) (p : Pointer) (l : AttributeList) where
   pub pair-addresses : 1 < left

@@ -16,7 +16,6 @@ use Rattle.codes.specs.declared.CodeSettings.{CodeSettings}
 use Rattle.codes.specs.declared.AttributeList.{AttributeList}
 use Rattle.codes.specs.Attribute.{invokes}
 use Rattle.noting.specs.Noting.{in_turn, some_invoke}
-use Rattle.addresses.specs.declared.Written.{Written}
 use Rattle.addresses.specs.declared.of_listed.Rest.{Rest}
 use Rattle.addresses.specs.Addresses.{word_in, pair, pair_after, code_addresses, code_list}
 use Rattle.addresses.specs.Listed.{list_from, left_addresses, left_written, past}

@@ -1,13 +1,13 @@
 -- Addresses at places of a list: one more, those of one part and then of the next, and words one after the other.
 use mathlib.Core.Path.{◌≡◌, refl, ap, sym, ◌∙◌}
-use mathlib.Core.List.{List, [], ◌∷◌, ◌++◌, append-nil}
+use mathlib.Core.List.{List, [], ◌∷◌, ◌++◌}
 use mathlib.Core.Bool.{Bool, true, false, ◌&&◌}
 use Prim.Native.Nat.{ℕ, zero, suc, ◌+◌, ◌-◌, ◌*◌, ◌%◌, ◌<◌, ◌≤◌, zero-le}
 use native.Mathlib.Omega.{arith}
-use native.Mathlib.Nat.{add-zero, zero-add}
+use native.Mathlib.Nat.{add-zero}
 use native.Mathlib.Numerals.{add-one}
-use lib.ListN.{length, take, drop, set, length-append}
-use lib.Seq.{sets, sets-eq}
+use lib.ListN.{length, set, length-append}
+use lib.Seq.{sets}
 use borrow.Author.Tests.{eq-eqb, ne_eqb}
 use Rattle.memory.specs.Word.{bit}
 use Rattle.memory.specs.declared.Pointer.{Pointer}
@@ -20,7 +20,6 @@ use Rattle.layout.specs.declared.OverlayHead.TheVariants.{NoOverlay, Over}
 use Rattle.layout.specs.Layout.{Overlay}
 use Rattle.layout.specs.Answers.{overlay_of}
 use Rattle.codes.specs.declared.AttributeList.{AttributeList}
-use Rattle.addresses.specs.declared.Written.{Written}
 use Rattle.noting.specs.Noting.{in_turn}
 use Rattle.addresses.specs.Addresses.{written_to, pointed, head_word, block_words, redefinition_of, due_of, over_rows, plan_addresses, block_addresses}
 

@@ -2,17 +2,16 @@
 use mathlib.Core.Path.{◌≡◌, refl, ap, ap₂, ◌∙◌}
 use mathlib.Core.Bool.{Bool, true, false}
 use mathlib.Core.List.{List, [], ◌∷◌, ◌++◌, append-nil}
-use Prim.Native.Nat.{ℕ, zero, suc, ◌+◌, ◌/◌, ◌<◌}
+use Prim.Native.Nat.{ℕ, ◌+◌, ◌/◌}
 use native.Mathlib.Omega.{arith}
 use lib.ListN.{length, get_or}
 use lib.Dec.{ltb}
 use Rattle.memory.specs.Word.{when◌then◌else◌}
 use Rattle.memory.specs.declared.Fault.{Fault}
 use Rattle.memory.specs.declared.Pointer.{Pointer}
-use Rattle.memory.specs.Reading.{Role, read_as, Ask, Reading, done, refuse, ask, absent, ◌>>=◌, check, check_of, Outcome, given, refused, run_from, asked}
+use Rattle.memory.specs.Reading.{Role, read_as, Ask, Reading, nobody, done, refuse, ask, absent, ◌>>=◌, check, check_of, given, refused, run_from, asked}
 use Rattle.memory.proofs.ReadBounds.{Words}
 use Rattle.memory.proofs.Gives.{Gives}
-use Rattle.memory.proofs.Gives as Gives
 
 pub data Trace {A : Type 0} (m : List ℕ) : Reading A → List ℕ → A → Type 0 where
   dones : {a : A} → Trace m (done a) [] a
@@ -78,6 +77,7 @@ alone {zs} e f g = joined e f g ∙ append-nil zs
 -- what holds of every result holds of this one
 pub trace-gives : {A : Type 0} {P : A → Type 0} {m : List ℕ} → Words m → {p : Reading A} {xs : List ℕ} {a : A} → Gives P p → Trace m p xs a → P a
 trace-gives b (Gives.dones h) dones = h
+trace-gives b Gives.refuses t = absurd (no-refusal t)
 trace-gives {m} b (Gives.asks g) (asks {q} t) = trace-gives b (g (get_or m (q.address / 2) 0) (b (q.address / 2))) t
 
 -- a reading has one trace
@@ -94,7 +94,7 @@ trace-check-of n p false k t = absurd (no-refusal t)
 
 pub trace-check : {A : Type 0} {m : List ℕ} (n : ℕ) (t : Bool) (k : Unit {0} → Reading A) {xs : List ℕ} {a : A} → Trace m (check n t >>= k) xs a
     → (t ≡ true) × Trace m (k tt) xs a
-trace-check n t k u = trace-check-of n _ t k u
+trace-check n t k u = trace-check-of n nobody t k u
 
 -- what a word is read as is not looked at
 pub trace-as : {A : Type 0} {m : List ℕ} (rs : List Role) (p : Reading A) {xs : List ℕ} {a : A} → Trace m (read_as rs p) xs a → Trace m p xs a

@@ -1,5 +1,5 @@
 -- The three stretches follow one another as in the definition; what a plan has checked gives the room of each.
-use mathlib.Core.Path.{◌≡◌, ap, sym, ◌∙◌}
+use mathlib.Core.Path.{ap, sym, ◌∙◌}
 use mathlib.Core.List.{List, ◌++◌}
 use Prim.Native.Nat.{ℕ, ◌+◌}
 use native.Mathlib.Omega.{arith}
@@ -13,73 +13,74 @@ use Rattle.cells.proofs.SideLaws.{around}
 use Rattle.codes.specs.Codes.{no_list}
 use Rattle.addresses.specs.Addresses.{run_addresses, run_list, cell_addresses}
 use Rattle.addresses.proofs.PlaceLaws.{sets-append}
-use borrow.Author.Rules.{rules}
-use Rattle.addresses.proofs.of_cells.put_around.Statement.{statement}
-use Rattle.addresses.proofs.of_cells.put_around.Tie as tie
+use Rattle.addresses.proofs.of_cells.put_around.Goals as goal
 
-put-stretch-requires : tie.Need-put-stretch-requires
+pub put_stretch-before-requires : goal.put_stretch-before-requires
 unfolding cell_addresses
-put-stretch-requires c κs =
-    let a = c.before.before.before.before.args in
-    let p = c.before.before.before.before.requires in
+put_stretch-before-requires c =
+    let a = c.args in
+    let p = c.requires in
     let σ = a.settings in
     let gs = segments_of σ.linear a.count a.back.now in
     let ws = segments_of σ.linear a.n a.window.now in
-    let k = around σ.hidden 0 a.first a.end ws gs p.0 in
+    let k = around σ.hidden 0 a.first a.end ws gs p.drawable in
     let before = segments_on (Before a.first) σ.hidden 0 gs in
     let after = segments_on (After a.first a.end) σ.hidden 0 gs in
     let x = run_addresses σ a.mem.now a.fill a.cells.now 0 before a.first no_list in
     let y = run_addresses σ a.mem.now a.fill a.cells.now a.first ws a.end no_list in
     let z = run_addresses σ a.mem.now a.fill a.cells.now a.end after 132 (run_list σ a.mem.now a.fill a.cells.now 0 before a.first no_list) in
-    rw p.1.0.1 ((omega (arith, k.before, k.inside, k.after), p.1.0.0), omega (arith, p.1.1, length-append x (y ++ z)))
+    rw p.cells_len.1 (record {
+      segments_bound = (omega (arith, k.before, k.inside, k.after), p.cells_len.0);
+      list_in_bounds = omega (arith, p.back_in_bounds, length-append x (y ++ z));
+    })
 
-put-stretch-requires-2 : tie.Need-put-stretch-requires-2
+pub put_stretch-inside-requires : goal.put_stretch-inside-requires
 unfolding cell_addresses
-put-stretch-requires-2 c κs =
-    let a = c.before.before.before.before.before.before.before.before.before.args in
-    let p = c.before.before.before.before.before.before.before.before.before.requires in
+put_stretch-inside-requires c =
+    let a = c.args in
+    let p = c.requires in
     let σ = a.settings in
     let gs = segments_of σ.linear a.count a.back.now in
     let ws = segments_of σ.linear a.n a.window.now in
-    let k = around σ.hidden 0 a.first a.end ws gs p.0 in
+    let k = around σ.hidden 0 a.first a.end ws gs p.drawable in
     let before = segments_on (Before a.first) σ.hidden 0 gs in
     let after = segments_on (After a.first a.end) σ.hidden 0 gs in
     let x = run_addresses σ a.mem.now a.fill a.cells.now 0 before a.first no_list in
     let y = run_addresses σ a.mem.now a.fill a.cells.now a.first ws a.end no_list in
     let z = run_addresses σ a.mem.now a.fill a.cells.now a.end after 132 (run_list σ a.mem.now a.fill a.cells.now 0 before a.first no_list) in
-    let one = c.before.before.before.before.put-stretch in
-    let r = rw p.1.0.1 at one.ensures.0 in (
-      (omega (arith, k.inside, k.after), p.1.0.0),
-      rw (c.before.no-list.ensures, r, whole-all σ.hidden 0 ws) (omega (arith, p.1.1, length-append x (y ++ z), length-append y z, one.auto.1.1.1.1.1.1.0)),
-    )
+    let one = c.put_stretch-before in
+    let r = rw p.cells_len.1 at one.ensures.value in record {
+      segments_bound = (omega (arith, k.inside, k.after), p.cells_len.0);
+      list_in_bounds = rw (c.no_list.ensures, r, whole-all σ.hidden 0 ws) (omega (arith, p.back_in_bounds, length-append x (y ++ z), length-append y z, one.auto.list));
+    }
 
-put-stretch-requires-3 : tie.Need-put-stretch-requires-3
+pub put_stretch-requires : goal.put_stretch-requires
 unfolding cell_addresses
-put-stretch-requires-3 c κs =
-    let a = c.before.before.before.before.before.before.before.before.before.before.before.before.before.before.args in
-    let p = c.before.before.before.before.before.before.before.before.before.before.before.before.before.before.requires in
+put_stretch-requires c =
+    let a = c.args in
+    let p = c.requires in
     let σ = a.settings in
     let gs = segments_of σ.linear a.count a.back.now in
     let ws = segments_of σ.linear a.n a.window.now in
-    let k = around σ.hidden 0 a.first a.end ws gs p.0 in
+    let k = around σ.hidden 0 a.first a.end ws gs p.drawable in
     let before = segments_on (Before a.first) σ.hidden 0 gs in
     let after = segments_on (After a.first a.end) σ.hidden 0 gs in
     let x = run_addresses σ a.mem.now a.fill a.cells.now 0 before a.first no_list in
     let y = run_addresses σ a.mem.now a.fill a.cells.now a.first ws a.end no_list in
     let z = run_addresses σ a.mem.now a.fill a.cells.now a.end after 132 (run_list σ a.mem.now a.fill a.cells.now 0 before a.first no_list) in
-    let one = c.before.before.before.before.before.before.before.before.before.put-stretch in
-    let two = c.before.before.before.before.put-stretch2 in
-    let r = rw p.1.0.1 at one.ensures.0 in
-    let s = rw (c.before.before.before.before.before.before.no-list.ensures, r, whole-all σ.hidden 0 ws) at two.ensures.0 in (
-      (omega (arith, k.after), p.1.0.0),
-      rw (s, r) (omega (arith, p.1.1, length-append x (y ++ z), length-append y z, one.auto.1.1.1.1.1.1.0, two.auto.1.1.1.1.1.1.0)),
-    )
+    let one = c.put_stretch-before in
+    let two = c.put_stretch-inside in
+    let r = rw p.cells_len.1 at c.put_stretch-before.ensures.value in
+    let s = rw (c.no_list.ensures, r, whole-all σ.hidden 0 ws) at c.put_stretch-inside.ensures.value in record {
+      segments_bound = (omega (arith, k.after), p.cells_len.0);
+      list_in_bounds = rw (s, r) (omega (arith, p.back_in_bounds, length-append x (y ++ z), length-append y z, one.auto.list, two.auto.list));
+    }
 
-returns : tie.Need-returns
+pub returns : goal.returns
 unfolding cell_addresses
 returns c =
-    let a = c.before.before.before.before.before.before.before.before.before.before.before.before.before.before.before.before.before.args in
-    let p = c.before.before.before.before.before.before.before.before.before.before.before.before.before.before.before.before.before.requires in
+    let a = c.args in
+    let p = c.requires in
     let σ = a.settings in
     let gs = segments_of σ.linear a.count a.back.now in
     let ws = segments_of σ.linear a.n a.window.now in
@@ -88,20 +89,9 @@ returns c =
     let x = run_addresses σ a.mem.now a.fill a.cells.now 0 before a.first no_list in
     let y = run_addresses σ a.mem.now a.fill a.cells.now a.first ws a.end no_list in
     let z = run_addresses σ a.mem.now a.fill a.cells.now a.end after 132 (run_list σ a.mem.now a.fill a.cells.now 0 before a.first no_list) in
-    let r = rw p.1.0.1 at c.before.before.before.before.before.before.before.before.before.before.before.before.put-stretch.ensures in
-    let s = rw (c.before.before.before.before.before.before.before.before.before.no-list.ensures, r.0, whole-all σ.hidden 0 ws) at c.before.before.before.before.before.before.before.put-stretch2.ensures in
-    let t = rw (s.0, r.0) at c.before.before.put-stretch3.ensures.1 in
+    let r = rw p.cells_len.1 at c.put_stretch-before.ensures in
+    let s = rw (c.no_list.ensures, r.value, whole-all σ.hidden 0 ws) at c.put_stretch-inside.ensures in
+    let t = rw (s.value, r.value) at c.put_stretch.ensures.list_after in
     t
-    ∙ ap (λ (k : List ℕ). sets k (a.to.at + length x + length y) z) (s.1 ∙ ap (λ (k : List ℕ). sets k (a.to.at + length x) y) r.1)
+    ∙ ap (λ (k : List ℕ). sets k (a.to.at + length x + length y) z) (s.list_after ∙ ap (λ (k : List ℕ). sets k (a.to.at + length x) y) r.list_after)
     ∙ sym (sets-append a.list.now a.to.at x (y ++ z) ∙ sets-append (sets a.list.now a.to.at x) (a.to.at + length x) y z)
-
-pub put-around-spec : {M : Type 1} → statement M
-put-around-spec =
-    tie.close
-    (tie.spec
-    put-stretch-requires
-    (λ c κs. search rules)
-    put-stretch-requires-2
-    put-stretch-requires-3
-    (λ c. search rules)
-    returns)
