@@ -1,18 +1,18 @@
 -- The blocks that a row is drawn from: the pointers in them stand, and a refusal blames one that stands.
-use mathlib.Core.Path.{◌≡◌, refl, sym, ap, subst, ◌∙◌}
+use mathlib.Core.Path.{◌≡◌, refl, sym, ◌∙◌}
 use mathlib.Core.Bool.{Bool, true, false, ◌&&◌}
-use mathlib.Core.List.{List, [], ◌∷◌}
-use Prim.Native.Nat.{ℕ, zero, suc, ◌+◌, ◌-◌, ◌*◌, ◌/◌, ◌%◌, ◌<◌, ◌≤◌, min}
+use mathlib.Core.List.{List, []}
+use Prim.Native.Nat.{ℕ, zero, suc, ◌+◌, ◌*◌, ◌%◌, ◌≤◌}
 use native.Mathlib.Omega.{arith}
-use lib.ListN.{get_or, drop}
-use lib.Dec.{ltb, leb, eqb, lit<}
-use borrow.Author.Tests.{leb-true, le-leb, ltb-true}
+use lib.ListN.{drop}
+use lib.Dec.{leb, lit<}
+use borrow.Author.Tests.{leb-true, le-leb}
 use Rattle.memory.specs.declared.Fault.{Fault}
 use Rattle.memory.specs.declared.Pointer.{Pointer}
-use Rattle.memory.specs.Word.{when◌then◌else◌, bit, high, low, at}
-use Rattle.memory.specs.Reading.{read_as, one_pointer, Reading, ◌>>=◌, blaming}
-use Rattle.memory.specs.Address.{pointer, null, is_address, ahead, further, words}
-use Rattle.memory.proofs.ReadBounds.{Words, both, if-cases}
+use Rattle.memory.specs.Word.{when◌then◌else◌, bit, high, at}
+use Rattle.memory.specs.Reading.{read_as, one_pointer, ◌>>=◌, blaming}
+use Rattle.memory.specs.Address.{null, is_address, ahead, further, words}
+use Rattle.memory.proofs.ReadBounds.{Words, both}
 use Rattle.blocks.specs.declared.Segment.{Segment}
 use Rattle.blocks.specs.declared.RowFormat.{RowFormat}
 use Rattle.blocks.specs.RowBlock.{segment_roles, RowBlock, segment_of, segments_at, segments_from, rest_of_block, block_at, format_of, redefined}
@@ -23,7 +23,7 @@ use Rattle.windows.specs.Window.{two_pointers, in_order, window_of, window_at}
 use Rattle.state.specs.State.{format_in_range}
 use Rattle.holding.proofs.Holds.{Each}
 use Rattle.blame.proofs.Comes.{as-comes, Comes, dones, bind, check-then, if-comes}
-use Rattle.blame.proofs.Standing.{Held, Stands, address, stands, null-stands, nothing-stands, From, words-come, later, ahead-address}
+use Rattle.blame.proofs.Standing.{Stands, address, stands, null-stands, nothing-stands, From, words-come, later, ahead-address}
 
 module _ (m : List ℕ) (b : Words m) (linear : Bool) where
   abbrev pub SegmentStands : Segment → Type 0

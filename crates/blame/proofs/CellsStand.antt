@@ -1,6 +1,6 @@
 -- The cells of a row: the list in use stands, and a refusal blames a pointer that stands.
 use mathlib.Core.Path.{◌≡◌}
-use mathlib.Core.Bool.{Bool, true, false, ◌&&◌, ◌||◌, not}
+use mathlib.Core.Bool.{true, false, ◌&&◌, ◌||◌, not}
 use mathlib.Core.List.{List}
 use Prim.Native.Nat.{ℕ, ◌/◌}
 use native.Mathlib.Omega.{arith}
@@ -8,9 +8,7 @@ use lib.ListN.{get_or}
 use lib.Dec.{ltb}
 use borrow.Author.Tests.{not-true}
 use Rattle.memory.specs.declared.Fault.{Fault}
-use Rattle.memory.specs.declared.Pointer.{Pointer}
-use Rattle.memory.specs.Word.{when◌then◌else◌}
-use Rattle.memory.specs.Reading.{Ask, absent}
+use Rattle.memory.specs.Reading.{absent}
 use Rattle.memory.specs.Address.{null}
 use Rattle.memory.proofs.ReadBounds.{Words, if-cases}
 use Rattle.blocks.specs.declared.FillMode.{FillMode}
@@ -19,7 +17,7 @@ use Rattle.layout.specs.Layout.{Overlay}
 use Rattle.codes.specs.declared.CodeSettings.{CodeSettings}
 use Rattle.codes.specs.declared.Source.{Source}
 use Rattle.codes.specs.Attribute.{ignores}
-use Rattle.codes.specs.Codes.{Drawing, list_at, taking, put, character}
+use Rattle.codes.specs.Codes.{Drawing, taking, put, character}
 use Rattle.cells.specs.Cells.{filled, row_cells}
 use Rattle.holding.proofs.Holds.{Each}
 use Rattle.holding.proofs.CellsHold.{EachOver, Keeps, cells-hold}

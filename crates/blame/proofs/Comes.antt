@@ -9,7 +9,7 @@ use lib.Dec.{ltb}
 use Rattle.memory.specs.declared.Fault.{Fault}
 use Rattle.memory.specs.declared.Pointer.{Pointer}
 use Rattle.memory.specs.Word.{when◌then◌else◌}
-use Rattle.memory.specs.Reading.{Role, read_as, Ask, Reading, done, refuse, ask, absent, blaming, ◌>>=◌, check_of, each, Outcome, given, refused, run_from}
+use Rattle.memory.specs.Reading.{Role, read_as, Ask, Reading, done, refuse, ask, absent, blaming, ◌>>=◌, check_of, Outcome, given, refused, run_from}
 use Rattle.memory.proofs.ReadBounds.{if-cases}
 use Rattle.holding.proofs.Holds as Shared
 

@@ -1,20 +1,17 @@
 -- The verdict on a frame: a pointer that it blames is not null, and it gives a refusal as it is only where the start up to the main block
 -- has it. It is the frame's: whole where the frame is not refused, with the refusal's number where it is.
-use mathlib.Core.Path.{◌≡◌, refl, sym, ap, ◌∙◌}
-use mathlib.Core.Bool.{Bool, true, false, ◌&&◌, not}
-use mathlib.Core.List.{List, [], ◌∷◌}
-use Prim.Native.Nat.{ℕ, zero, suc, ◌+◌, ◌-◌, ◌<◌, ◌≤◌}
+use mathlib.Core.Path.{◌≡◌, refl, sym, ◌∙◌}
+use mathlib.Core.Bool.{true, false, ◌&&◌, not}
+use mathlib.Core.List.{List}
+use Prim.Native.Nat.{ℕ, zero, suc, ◌-◌, ◌<◌, ◌≤◌}
 use native.Mathlib.Omega.{arith}
-use lib.Dec.{eqb, leb, lit<}
+use lib.Dec.{eqb, lit<}
 use borrow.Author.Tests.{eqb-false, le-leb}
 use Rattle.memory.specs.declared.Fault.{Fault}
-use Rattle.memory.specs.declared.Refusal.{Refusal}
-use Rattle.memory.specs.Word.{when◌then◌else◌, at}
-use Rattle.memory.specs.Reading.{one_pointer, Reading, ◌>>=◌, nobody, blaming, Outcome, given, refused, refusal, run_from, run}
-use Rattle.memory.specs.Address.{pointer, null, is_address, ahead}
+use Rattle.memory.specs.Reading.{one_pointer, nobody, Outcome, given, refused, refusal, run_from, run}
+use Rattle.memory.specs.Address.{null, ahead}
 use Rattle.memory.proofs.Laws.{bind-given, bind-refused, bind-bind}
 use Rattle.memory.proofs.ReadBounds.{Words, if-cases}
-use Rattle.settings.specs.declared.PointerWords.{PointerWords}
 use Rattle.settings.specs.declared.Interlace.{Interlace}
 use Rattle.settings.specs.declared.Interlace.TheVariants.{Progressive, RepeatField, Video}
 use Rattle.settings.specs.declared.Settings.{Settings}
@@ -26,19 +23,18 @@ use Rattle.blocks.specs.declared.MainBlock.{MainBlock}
 use Rattle.blocks.specs.Main.{main_block, main_block_at}
 use Rattle.windows.specs.Window.{first_window}
 use Rattle.state.specs.declared.State.{State}
-use Rattle.state.specs.State.{state_of}
 use Rattle.start.specs.Top.{registered, enabled, of_window, top_block}
-use Rattle.start.specs.Start.{first_format, first_fields, window_start, start_from}
+use Rattle.start.specs.Start.{first_fields, window_start, start_from}
 use Rattle.row.specs.Row.{Row, row}
 use Rattle.blame.specs.declared.Place.{Place}
-use Rattle.blame.specs.declared.Place.TheVariants.{Register, Memory}
+use Rattle.blame.specs.declared.Place.TheVariants.{Register}
 use Rattle.blame.specs.declared.Verdict.{Verdict}
 use Rattle.blame.specs.declared.Verdict.TheVariants.{Whole, Blamed, Refused}
-use Rattle.blame.specs.Blame.{leader, blamed, mendable, as_it_is, refused_row, next_state, by_row, rows_within, rows, main_of, by_start, verdict}
-use Rattle.blame.proofs.Comes.{as-comes, Comes, dones, bind, check-comes, check-then, if-comes, comes-given, comes-refused}
+use Rattle.blame.specs.Blame.{leader, mendable, as_it_is, refused_row, next_state, by_row, rows_within, rows, main_of, by_start, verdict}
+use Rattle.blame.proofs.Comes.{as-comes, Comes, dones, bind, check-comes, check-then, comes-given, comes-refused}
 use Rattle.blame.proofs.Standing.{Stands, pointer-address, pointer-words, pointer-to, stands, words-come}
 use Rattle.blame.proofs.BlocksStand.{window-stands}
-use Rattle.blame.proofs.RowStands.{HeldAt, FieldsStand, LedTo, Ready, Mends, row-stands}
+use Rattle.blame.proofs.RowStands.{HeldAt, Ready, Mends, row-stands}
 
 -- TOP's and TOW's words have 16 bits, as those of memory
 pub record Registers (σ : Settings) : Type 0 where

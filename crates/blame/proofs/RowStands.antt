@@ -1,44 +1,41 @@
 -- A row of a frame: its state is in range, the pointers in it stand, and a refusal blames one that stands. So the next state's do.
-use mathlib.Core.Path.{◌≡◌, refl, sym, ap, subst, ◌∙◌}
-use mathlib.Core.Bool.{Bool, true, false, ◌&&◌, ◌||◌}
-use mathlib.Core.List.{List, [], ◌∷◌}
-use Prim.Native.Nat.{ℕ, zero, suc, ◌+◌, ◌-◌, ◌<◌, ◌≤◌, min}
+use mathlib.Core.Path.{◌≡◌, refl, sym, ap, ◌∙◌}
+use mathlib.Core.Bool.{Bool, true, false, ◌&&◌}
+use mathlib.Core.List.{List, []}
+use Prim.Native.Nat.{ℕ, ◌+◌, ◌-◌, ◌<◌, ◌≤◌}
 use native.Mathlib.Omega.{arith}
-use lib.Dec.{ltb, leb, eqb}
-use borrow.Author.Tests.{leb-true, le-leb, lt-ltb, ltb-true}
+use lib.Dec.{ltb, leb}
+use borrow.Author.Tests.{leb-true, le-leb, lt-ltb}
 use Rattle.memory.specs.declared.Fault.{Fault}
 use Rattle.memory.specs.declared.Pointer.{Pointer}
 use Rattle.memory.specs.Word.{when◌then◌else◌}
-use Rattle.memory.specs.Reading.{Reading, done, ◌>>=◌, ◌>>◌, check, nobody, blaming, fault}
+use Rattle.memory.specs.Reading.{done, ◌>>=◌, ◌>>◌, check, nobody, blaming, fault}
 use Rattle.memory.specs.Address.{null}
-use Rattle.memory.proofs.ReadBounds.{Words, both, if-cases}
+use Rattle.memory.proofs.ReadBounds.{Words, both}
 use Rattle.settings.specs.declared.Settings.{Settings}
-use Rattle.settings.specs.Good.{check_settings}
 use Rattle.settings.proofs.CheckLaws.{Passing, passing-done}
 use Rattle.blocks.specs.declared.RowFormat.{RowFormat}
 use Rattle.blocks.specs.declared.Segment.{Segment}
 use Rattle.blocks.specs.RowBlock.{RowBlock, row_block_at, window_row_at}
-use Rattle.windows.specs.declared.Window.{Window}
 use Rattle.windows.specs.declared.WindowInHand.{WindowInHand}
 use Rattle.windows.specs.declared.WindowInHand.TheVariants.{Absent, Present}
-use Rattle.windows.specs.Window.{in_order, window_at, due_window}
+use Rattle.windows.specs.Window.{window_at, due_window}
 use Rattle.windows.proofs.WindowBounds.{in_order_lem}
 use Rattle.state.specs.declared.Fields.{Fields}
 use Rattle.state.specs.declared.State.{State}
 use Rattle.state.specs.State.{format_in_range, window_in_range, in_range}
-use Rattle.state.proofs.StateLaws.{has-line}
 use Rattle.layout.specs.Layout.{total, all_fit, Overlay, none, over, edges_fit}
 use Rattle.layout.specs.Overlay.{Overlaid, window_row, overlaid}
-use Rattle.background.specs.Background.{BackgroundRow, background_block, background_row}
-use Rattle.plan.specs.Plan.{Plan, lines_taken, planned, next_fields, plan}
-use Rattle.codes.specs.Codes.{Drawing, blank}
-use Rattle.row.specs.Row.{code_settings, Row, row}
+use Rattle.background.specs.Background.{background_block, background_row}
+use Rattle.plan.specs.Plan.{Plan, planned, next_fields, plan}
+use Rattle.codes.specs.Codes.{blank}
+use Rattle.row.specs.Row.{code_settings, row}
 use Rattle.blame.specs.declared.Place.{Place}
-use Rattle.blame.specs.declared.Place.TheVariants.{Register, Memory}
+use Rattle.blame.specs.declared.Place.TheVariants.{Memory}
 use Rattle.blame.specs.Blame.{first_word, second_word, leader, blamed, mendable}
 use Rattle.blame.proofs.Comes.{Comes, dones, bind, check-then, if-comes}
 use Rattle.blame.proofs.Standing.{Held, Stands, address}
-use Rattle.blame.proofs.BlocksStand.{SegmentStands, SegmentsStand, BlockStands, block-stands, format-stands, WindowStands, HandStands, window-stands}
+use Rattle.blame.proofs.BlocksStand.{SegmentStands, SegmentsStand, BlockStands, block-stands, format-stands, HandStands, window-stands}
 use Rattle.blame.proofs.CellsStand.{cells-stand}
 use Rattle.holding.proofs.CellsHold.{EachOver}
 

@@ -1,20 +1,20 @@
 -- Pointers that stand in memory: of one that is not null, the two words where it begins are not both 0. A pointer that was read stands, and
 -- so do those of the words after a pointer.
-use mathlib.Core.Path.{◌≡◌, refl, sym, ap, ◌∙◌}
+use mathlib.Core.Path.{◌≡◌, refl, ap, ◌∙◌}
 use mathlib.Core.Bool.{Bool, true, false, ◌&&◌, ◌||◌, not}
-use mathlib.Core.List.{List, [], ◌∷◌}
-use Prim.Native.Nat.{ℕ, zero, suc, ◌+◌, ◌*◌, ◌/◌, ◌%◌, ◌<◌, ◌≤◌}
+use mathlib.Core.List.{List, ◌∷◌}
+use Prim.Native.Nat.{ℕ, zero, suc, ◌+◌, ◌*◌, ◌/◌, ◌%◌, ◌<◌}
 use native.Mathlib.Omega.{arith}
 use lib.ListN.{get_or, drop}
 use lib.Seq.{get_or-drop}
-use lib.Dec.{ltb, eqb}
-use borrow.Author.Tests.{eq-eqb, ne_eqb, lt-ltb, eqb-true, eqb-false}
+use lib.Dec.{eqb}
+use borrow.Author.Tests.{eq-eqb, lt-ltb, eqb-false}
 use Rattle.memory.specs.declared.Fault.{Fault}
 use Rattle.memory.specs.declared.Pointer.{Pointer}
 use Rattle.memory.specs.Word.{when◌then◌else◌, at}
-use Rattle.memory.specs.Reading.{Reading, ◌>>=◌}
+use Rattle.memory.specs.Reading.{◌>>=◌}
 use Rattle.memory.specs.Address.{to, nothing, pointer, null, is_address, next_word, ahead, onward, words}
-use Rattle.memory.proofs.ReadBounds.{Words, both, if-cases}
+use Rattle.memory.proofs.ReadBounds.{Words, both}
 use Rattle.memory.proofs.Step.{step-address}
 use Rattle.state.specs.State.{pointer_in_range}
 use Rattle.blame.proofs.Comes.{Comes, dones, asks, bind}
