@@ -15,7 +15,7 @@ use Rattle.frame.specs.declared.Progress.{Progress}
 use Rattle.frame.specs.declared.BeginAnswer.{BeginAnswer}
 use Rattle.frame.specs.declared.BeginAnswer.TheVariants as Begin
 use Rattle.frame.specs.Step.{begin}
-use Rattle.frame.specs.Frame.{Frame, stopped, rest, from_begin, frame, handed_on_by, handed_on, Screen, frames, from_reset}
+use Rattle.frame.specs.Frame.{Frame, stopped, from_begin, frame, handed_on_by, handed_on, Screen, frames, from_reset}
 use Rattle.frame.specs.HandedOn.{latch_after, if_refused, accepted, kept}
 use Rattle.frame.proofs.Frames.{induction}
 

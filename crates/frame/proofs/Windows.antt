@@ -15,7 +15,6 @@ use Rattle.memory.proofs.Gives.{run-gives}
 use Rattle.settings.specs.declared.Settings.{Settings}
 use Rattle.blocks.specs.declared.FillMode.{FillMode}
 use Rattle.windows.specs.declared.Window.{Window}
-use Rattle.windows.specs.declared.WindowBlock.{WindowBlock}
 use Rattle.windows.specs.declared.WindowInHand.{WindowInHand}
 use Rattle.windows.specs.declared.WindowInHand.TheVariants.{Absent, Present}
 use Rattle.windows.proofs.WindowBounds.{Placed, After, same, later, after-refl, after-trans}
@@ -34,7 +33,7 @@ use Rattle.frame.specs.declared.BeginAnswer.TheVariants as Begin
 use Rattle.frame.specs.declared.StepAnswer.{StepAnswer}
 use Rattle.frame.specs.declared.StepAnswer.TheVariants.{Drawn, Ended, Refused}
 use Rattle.frame.specs.Step.{begun, begin, row_step, Stepped, step}
-use Rattle.frame.specs.Frame.{FrameRow, frame_row, Frame, by_answer, blank, within, rest, from_begin, frame}
+use Rattle.frame.specs.Frame.{FrameRow, Frame, by_answer, blank, within, rest, from_begin, frame}
 
 -- the window in hand after a start, and after a row: the one that the row's cells of source 2 came from
 abbrev pub in_hand_first : BeginAnswer → WindowInHand
@@ -123,23 +122,28 @@ pub data ◌∈◌ {A : Type 0} (x : A) : List A → Type 0 where
   there : {y : A} {xs : List A} → x ∈ xs → x ∈ (y ∷ xs)
 
 all_in : {P : ℕ → Type 0} {cs : List ℕ} {c : ℕ} → All P cs → c ∈ cs → P c
+all_in {P = P} {c = c} none i = elim i [ ]
 all_in (also h hs) here = h
 all_in (also h hs) (there i) = all_in hs i
 
 named_in : {w : WindowInHand} {rs : List FrameRow} {r : FrameRow} → Chain w rs → r ∈ rs → All (Named r.answer.number (in_hand r)) r.cells
+named_in {r = r} (end {w = w}) i = elim i [ ]
 named_in (next a p n c) here = n
 named_in (next a p n c) (there i) = named_in c i
 
 pub placed-in : {w : WindowInHand} {rs : List FrameRow} {r : FrameRow} → Chain w rs → r ∈ rs → Placed (in_hand r)
+placed-in {r = r} (end {w = w}) i = elim i [ ]
 placed-in (next a p n c) here = p
 placed-in (next a p n c) (there i) = placed-in c i
 
 after-in : {w : WindowInHand} {rs : List FrameRow} {r : FrameRow} → Chain w rs → r ∈ rs → After w (in_hand r)
+after-in {r = r} (end {w = w}) i = elim i [ ]
 after-in (next a p n c) here = a
 after-in (next a p n c) (there i) = after-trans a (after-in c i)
 
 either : {w : WindowInHand} {rs : List FrameRow} {r s : FrameRow} → Chain w rs → r ∈ rs → s ∈ rs
     → After (in_hand r) (in_hand s) ⊎ After (in_hand s) (in_hand r)
+either {r = r} {s = s} (end {w = w}) i _ = elim i [ ]
 either (next {r} a p n c) here here = inl (after-refl (in_hand r))
 either (next a p n c) here (there j) = inl (after-in c j)
 either (next a p n c) (there i) here = inr (after-in c i)
