@@ -94,7 +94,7 @@ module _ (σ : Settings) (m : List ℕ) where
       if-holds (null p) (λ _. dones tt) λ e.
       bind (as-holds (λ _ _ h. h) (λ _ _ _ h. h) two_pointers (words-tell σ m 6 p (first σ m p s e))) λ b c.
       let w = (window_of σ.linear number p.address b).block in
-      check-then 8 _ (in_order w && leb least w.top) (λ _. refl) λ _ _.
+      check-then 8 p (in_order w && leb least w.top) (λ _. refl) λ _ _.
       dones (pointer-stands σ m p.address 0 6 b c.copied (lit< tt), pointer-stands σ m p.address 2 6 b c.copied (lit< tt))
 
   pub due-tells : (row : ℕ) (w : WindowInHand) → WindowStands w → Says WindowStands (due_window σ.linear row w)

@@ -1,12 +1,10 @@
 -- The cells of a row: codes and words of a list are asked for through the segments' pointers that stand, and steps from these.
 use mathlib.Core.Path.{◌≡◌, refl}
-use mathlib.Core.Bool.{Bool, true, ◌&&◌, ◌||◌, not}
+use mathlib.Core.Bool.{true, ◌&&◌, ◌||◌, not}
 use mathlib.Core.List.{List}
 use Prim.Native.Nat.{ℕ}
 use lib.Dec.{ltb}
-use Rattle.memory.specs.declared.Fetch.TheVariants.{Word}
 use Rattle.memory.specs.declared.Pointer.{Pointer}
-use Rattle.memory.specs.Reading.{fetch}
 use Rattle.memory.specs.Address.{nothing, null}
 use Rattle.memory.proofs.ReadBounds.{if-cases}
 use Rattle.settings.specs.declared.Settings.{Settings}

@@ -4,6 +4,7 @@ use mathlib.Core.Bool.{true, false, not, ◌&&◌}
 use mathlib.Core.List.{List}
 use Prim.Native.Nat.{ℕ, ◌+◌, ◌-◌}
 use lib.Dec.{ltb, leb}
+use Rattle.memory.specs.Reading.{nobody}
 use Rattle.memory.specs.Address.{null}
 use Rattle.settings.specs.declared.Settings.{Settings}
 use Rattle.settings.specs.Good.{good, check_settings}
@@ -34,7 +35,7 @@ module _ (σ : Settings) (m : List ℕ) where
   -- the checks on settings
   settings-tell : Says σ m (λ _. Unit {0}) (check_settings σ)
   unfolding check_settings
-  settings-tell = check-then 2 _ (good σ) (λ _. refl) λ _ _. check-holds 17 _ σ.linear (λ _. refl) λ _. tt
+  settings-tell = check-then 2 nobody (good σ) (λ _. refl) λ _ _. check-holds 17 nobody σ.linear (λ _. refl) λ _. tt
 
   -- the three pointers of a state
   pub record Standing (f : Fields) : Type 0 where
@@ -46,9 +47,9 @@ module _ (σ : Settings) (m : List ℕ) where
   unfolding top_block
   top-tells =
       let p = registered σ.linear σ.top in
-      check-then 6 _ (not (null p)) (λ _. refl) λ _ e.
+      check-then 6 nobody (not (null p)) (λ _. refl) λ _ e.
       bind (main-tells σ m p (first σ m p (λ _. by_top) (not-true (null p) e))) λ b h.
-      check-then 14 _ (not (enabled b && of_window b)) (λ _. refl) λ _ _. dones h
+      check-then 14 nobody (not (enabled b && of_window b)) (λ _. refl) λ _ _. dones h
 
   pub start-tells : (latch : ℕ) → Says σ m (λ s. Standing s.fields) (start_from latch σ)
   unfolding start_from window_start first_window first_fields
@@ -68,8 +69,8 @@ module _ (σ : Settings) (m : List ℕ) where
   overlaid-tells row (Present w) s =
       if-holds (leb w.block.top row && leb row w.block.bottom)
       (λ _. bind (block-tells σ m false w.rows s.1) λ b h.
-      check-then 9 _ (all_fit b.segments) (λ _. refl) λ _ _.
-      check-then 11 _ (leb (total σ.hidden b.segments) (w.block.right + 1 - w.block.left)) (λ _. refl) λ _ _.
+      check-then 9 w.rows (all_fit b.segments) (λ _. refl) λ _ _.
+      check-then 11 nobody (leb (total σ.hidden b.segments) (w.block.right + 1 - w.block.left)) (λ _. refl) λ _ _.
       dones (record { overlay = h.segments; window = (s.0, h.link) }))
       λ _. dones (record { overlay = tt; window = s })
 
@@ -77,8 +78,8 @@ module _ (σ : Settings) (m : List ℕ) where
   unfolding background_row background_block row_block_at
   background-tells f s =
       bind (bind (block-tells σ m true f.next s) λ b h. bind (redefined-tells σ m b.redefinition f.format h.redefinition) λ t _. dones h) λ g h.
-      check-then 9 _ (all_fit g.block.segments) (λ _. refl) λ _ _.
-      check-then 10 _ (leb (total σ.hidden g.block.segments) 132) (λ _. refl) λ _ _. dones h
+      check-then 9 f.next (all_fit g.block.segments) (λ _. refl) λ _ _.
+      check-then 10 f.next (leb (total σ.hidden g.block.segments) 132) (λ _. refl) λ _ _. dones h
 
   -- what a row is drawn from, and the next state
   record Planned (p : Plan) : Type 0 where
@@ -90,12 +91,12 @@ module _ (σ : Settings) (m : List ℕ) where
   unfolding plan next_fields
   plan-tells f s =
       bind settings-tell λ _ _.
-      check-then 3 _ (in_range f) (λ _. refl) λ _ _.
-      check-then 4 _ (ltb 0 f.left) (λ _. refl) λ _ _.
+      check-then 3 nobody (in_range f) (λ _. refl) λ _ _.
+      check-then 4 nobody (ltb 0 f.left) (λ _. refl) λ _ _.
       bind (due-tells σ m f.row f.window s.window) λ w hw.
       bind (background-tells f s.next) λ g hg.
       bind (overlaid-tells f.row w hw) λ o ho.
-      check-then 12 _ (edges_fit σ.hidden o.overlay g.block.segments) (λ _. refl) λ _ _.
+      check-then 12 nobody (edges_fit σ.hidden o.overlay g.block.segments) (λ _. refl) λ _ _.
       dones (record { segments = hg.segments; overlay = ho.overlay; next = record { next = hg.link; window = ho.window } })
 
   pub row-tells : (s : State) → Standing s.fields → Says σ m (λ r. Standing r.next) (row σ s)

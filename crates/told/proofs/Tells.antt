@@ -9,7 +9,6 @@ use borrow.Author.Tests.{eq-eqb}
 use Rattle.memory.specs.declared.Fault.{Fault}
 use Rattle.memory.specs.declared.Fetch.TheVariants.{Word, Absent}
 use Rattle.memory.specs.declared.Pointer.{Pointer}
-use Rattle.memory.specs.Word.{when◌then◌else◌}
 use Rattle.memory.specs.Reading.{Ask, Reading, fetch, Outcome, given, refused, run_from}
 use Rattle.memory.proofs.ReadBounds.{if-cases}
 use Rattle.holding.proofs.Holds.{Holds, dones, refuses, asks}
@@ -44,9 +43,9 @@ pub data Ends {A : Type 0} (m : List ℕ) (Q : Pointer → Type 0) (P : A → Ty
   gives : {k : ℕ} {a : A} → P a → Ends m Q P (given k a)
   tells : {x : Fault} → (x.number ≡ 7 → Q (record { address = x.address; from = x.from }) × (fetch m x.address ≡ Absent)) → Ends m Q P (refused x)
 
-pub run_ends : {A : Type 0} {Q : Pointer → Type 0} {P : A → Type 0} (n : ℕ) (m : List ℕ) {p : Reading A} → Tells m Q P p → Ends m Q P (run_from n m p)
+pub run_ends : {A : Type 0} {Q : Pointer → Type 0} {P : A → Type 0} (m : List ℕ) (n : ℕ) {p : Reading A} → Tells m Q P p → Ends m Q P (run_from n m p)
 unfolding run_from
-run_ends n m (dones h) = gives h
-run_ends n m (refuses {x} e) = tells λ h. apart (sym (eq-eqb x.number 7 h) ∙ e)
-run_ends {Q} {P} n m (asks {q} h g) =
-    if-cases (Ends m Q P) (ltb (q.address / 2) (length m)) (λ e. run_ends (n + 1) m (g (get_or m (q.address / 2) 0) (rw e))) λ e. tells λ _. (h, rw e)
+run_ends m n (dones h) = gives h
+run_ends m n (refuses {x} e) = tells λ h. apart (sym (eq-eqb x.number 7 h) ∙ e)
+run_ends {Q} {P} m n (asks {q} {f} h g) =
+    if-cases (Ends m Q P) (ltb (q.address / 2) (length m)) (λ e. run_ends {Q = Q} {P = P} m (n + 1) {p = f (get_or m (q.address / 2) 0)} (g (get_or m (q.address / 2) 0) (rw e))) λ e. tells λ _. (h, rw e)

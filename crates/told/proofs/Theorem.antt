@@ -53,7 +53,7 @@ module _ (σ : Settings) (m : List ℕ) where
   unfolding row_call
   by_call p b s =
       if-cases (λ (c : Called). Goes (row_step p c.answer)) (eqb (length b) 132)
-      (λ _. by-outcome p b (run_ends 0 m (row-tells σ m p.state s))) (λ _ e. absurd (omega (arith, e)))
+      (λ _. by-outcome p b (run_ends m 0 (row-tells σ m p.state s))) (λ _ e. absurd (omega (arith, e)))
 
   steps : (p : Progress) (b : List ℕ) → Standing σ m p.state.fields → Goes (step σ m p b).answer
   unfolding step
@@ -88,7 +88,7 @@ module _ (σ : Settings) (m : List ℕ) where
   -- of every frame from a start
   pub told-true : (latch : ℕ) → ToldTrue latch σ m
   unfolding frame begin
-  told-true latch = from_start (run_ends 0 m (start-tells σ m latch))
+  told-true latch = from_start (run_ends m 0 (start-tells σ m latch))
 
   -- ---- where the address told is not 0 ----
   by-words : (r : Refusal) {p : Pointer} → Held σ m p → p.from ≡ r.from → Leads σ.linear m p.address r.address
