@@ -3,7 +3,7 @@ use mathlib.Core.Path.{◌≡◌, refl, sym, ap, ◌∙◌}
 use mathlib.Core.List.{List, [], ◌∷◌, ◌++◌, append_assoc}
 use Prim.Native.Nat.{ℕ, zero, suc, ◌+◌, ◌-◌, ◌/◌, ◌%◌, ◌<◌, ◌≤◌, min}
 use native.Mathlib.Omega.{arith}
-use native.Mathlib.Nat.{add_assoc, min-zero, zero-min, suc-min-suc}
+use native.Mathlib.Nat.{add_assoc, zero-min, suc-min-suc}
 use native.Mathlib.Numerals.{add-one}
 use lib.ListN.{length, get_or, take, drop, set, length-set, length-drop, length-append, drop_of_length-le}
 use lib.Seq.{drop-cons, drop-set-lt, get_or-set_same, get_or-drop, drop-drop, take-suc, take_at, take-nil, length-take-le}

@@ -1,0 +1,10 @@
+-- Each call writes its piece after the ones before, so the pieces are the line's, one after the other.
+use mathlib.Core.Path.{◌∙◌}
+use Rattle.lines.specs.Lines.{end_line}
+use Rattle.lines.proofs.end_line.Goals as goal
+
+pub returns : goal.returns
+unfolding end_line
+returns c =
+    let e = c.put_end.ensures in
+    (c.put_end.ensures.0, c.put_end.ensures.1, c.put_end.ensures.2 ∙ rw (c.put_number-at-2.ensures.1, c.put_number-at.ensures.1))
