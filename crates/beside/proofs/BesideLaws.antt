@@ -1,25 +1,24 @@
 -- What the row beside the cut comes to: a law for each way through its definitions.
-use mathlib.Core.Path.{◌≡◌, refl, ap, sym, ◌∙◌}
-use mathlib.Core.Bool.{true, false}
+use mathlib.Core.Path.{◌≡◌, ap, ◌∙◌}
 use mathlib.Core.List.{List}
 use Prim.Native.Nat.{ℕ, ◌≤◌}
 use native.Mathlib.Omega.{arith}
 use lib.ListN.{length}
 use borrow.Author.Tests.{eq-eqb, ne_eqb}
 use Rattle.memory.specs.declared.Refusal.{Refusal}
-use Rattle.memory.specs.Reading.{Outcome, given, refused, fault, refusal, run}
+use Rattle.memory.specs.Reading.{Outcome, fault, refusal}
 use Rattle.memory.proofs.ReadBounds.{Words, Within, given-within, refused-within, run-reads}
 use Rattle.settings.specs.declared.Settings.{Settings}
 use Rattle.state.specs.declared.State.{State}
 use Rattle.state.specs.State.{state_of}
 use Rattle.start.specs.declared.Started.{Started}
 use Rattle.start.specs.declared.StartAnswer.TheVariants as Start
-use Rattle.start.specs.Start.{start_from, started, start_call}
+use Rattle.start.specs.Start.{started, start_call}
 use Rattle.start.proofs.StartBound.{start-reads}
 use Rattle.row.specs.declared.RowAnswer.{RowAnswer}
-use Rattle.row.specs.Row.{Called, called, row_call}
+use Rattle.row.specs.Row.{called, row_call}
 use Rattle.beside.specs.declared.BesideAnswer.TheVariants.{Refused}
-use Rattle.beside.specs.Beside.{told, BesideCalled, beside_called, told_call, with_one_line, row_below, after_start, row_above}
+use Rattle.beside.specs.Beside.{told, beside_called, told_call, with_one_line, row_below, after_start, row_above}
 
 -- a start reads at most 13 words
 few_words : {P : State → Type 0} {o : Outcome State} (s : Started) → Within P 13 o → Start.Accepted s ≡ started o → s.words ≤ 13
