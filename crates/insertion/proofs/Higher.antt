@@ -204,4 +204,4 @@ module _ (latch : ℕ) (σ : Settings) (link : ℕ) (old new : List ℕ) (h : In
   higher f w (ended z) (ended y) = over
   higher f w (ended z) (drawn y e c) = absurd (y z)
   higher f w (drawn z d c) (ended y) = absurd (z y)
-  higher f w (drawn z d c) (drawn y e k) = row_moved f w d e c k (λ g v b. higher g v c b)
+  higher {holder = holder} f w (drawn {s = s} z d c) (drawn y e k) = row_moved f w d e c k (λ g v b. higher {holder = block_of s} g v c b)

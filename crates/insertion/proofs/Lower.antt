@@ -164,4 +164,4 @@ module _ (latch : ℕ) (σ : Settings) (link : ℕ) (old new : List ℕ) (h : In
   pub lower : {size holder : ℕ} {o n : State} {os ns : List FrameRow} → Lower size holder o n os ns → Chain σ old o os → Chain σ new n ns → Pairs o os n ns
   lower w c (ended e) = fallen
   lower {o} {n} w (ended e) (drawn l f k) = absurd (l (omega (arith, w.left)))
-  lower w (drawn l d c) (drawn lined e k) = lower-row w lined d e c (λ v. lower v c k)
+  lower {holder = holder} w (drawn l d c) (drawn {s = s} lined e k) = lower-row w lined d e c (λ v. lower {holder = block_of s} v c k)

@@ -111,7 +111,7 @@ module _ (σ : Settings) (m : List ℕ) where
       lines = t.1 ∙ ap (λ (u : _). lines_taken u f.left) kept-format;
     }
       where
-        told-by : {r s : Row} {p q : Pointer} → RowAlike f f p q r s → (r.next ≡ next_fields f r.format p Absent) × (r.lines ≡ lines_taken r.format f.left)
+        told-by : {p q : Pointer} {r s : Row} → RowAlike f f p q r s → (r.next ≡ next_fields f r.format p Absent) × (r.lines ≡ lines_taken r.format f.left)
         told-by (rows t d) = (refl, refl)
 
     pub row_told : Told f r
