@@ -93,7 +93,7 @@ marked_other marks q i l f e = by_place (eqb (q.address / 2) i) refl
         ap (λ (n : ℕ). eqb n 1) (get_or-set_other marks (q.address / 2) i (mark q.role) 0 λ s. eqb-false (q.address / 2) i h (sym s)) ∙ e
 
 module _ {held : ℕ} {m : List ℕ} where
-  walks-first : {A : Type 0} {after marks : List ℕ} {a : A} {p : Reading A} (i : ℕ) → length marks ≡ length m → Walks held m after a marks p
+  walks-first : {A : Type 0} {after : List ℕ} {a : A} {marks : List ℕ} {p : Reading A} (i : ℕ) → length marks ≡ length m → Walks held m after a marks p
       → is_read i (first_words m p) ≡ true → get_or after i 0 ≡ 1
   unfolding first_words is_read
   walks-first i l (ends _ _) h = apart (sym h)
@@ -102,7 +102,7 @@ module _ {held : ℕ} {m : List ℕ} where
       let size = length-set marks (q.address / 2) (mark q.role) ∙ l in
       first-or q.role i q.address _ (rw t at h) (marked-first marks after q i there (walks-on size w).kept) (walks-first i size w)
 
-  walks-other : {A : Type 0} {after marks : List ℕ} {a : A} {p : Reading A} (i : ℕ) → length marks ≡ length m → Walks held m after a marks p
+  walks-other : {A : Type 0} {after : List ℕ} {a : A} {marks : List ℕ} {p : Reading A} (i : ℕ) → length marks ≡ length m → Walks held m after a marks p
       → is_read i (first_words m p) ≡ false → eqb (get_or marks i 0) 1 ≡ false → eqb (get_or after i 0) 1 ≡ false
   unfolding first_words
   walks-other i l (ends s _) h e = ap (λ (ms : List ℕ). eqb (get_or ms i 0) 1) (sym s) ∙ e

@@ -42,12 +42,12 @@ no-mark (suc n) (suc i) = no-mark n i
 
 module _ {held : ℕ} {m : List ℕ} where
   -- what an accepted walk comes to
-  pub walks-given : {A : Type 0} {after marks : List ℕ} {a : A} {p : Reading A} (c : ℕ) → Walks held m after a marks p → (k : ℕ) × (run_from c m p ≡ given k a)
+  pub walks-given : {A : Type 0} {after : List ℕ} {a : A} {marks : List ℕ} {p : Reading A} (c : ℕ) → Walks held m after a marks p → (k : ℕ) × (run_from c m p ≡ given k a)
   unfolding run_from
   walks-given c (ends _ e) = (c, ap (given c) e)
   walks-given c (goes o t s w) = let r = walks-given (c + 1) w in (r.0, rw t r.1)
 
-  walks-unread : {A : Type 0} {after marks : List ℕ} {a : A} {p : Reading A} (i : ℕ) → Walks held m after a marks p → is_read i (asked m p) ≡ false
+  walks-unread : {A : Type 0} {after : List ℕ} {a : A} {marks : List ℕ} {p : Reading A} (i : ℕ) → Walks held m after a marks p → is_read i (asked m p) ≡ false
       → get_or after i 0 ≡ get_or marks i 0
   unfolding asked is_read
   walks-unread i (ends e _) h = ap (λ (ms : List ℕ). get_or ms i 0) (sym e)

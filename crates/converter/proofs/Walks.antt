@@ -1,7 +1,7 @@
 -- What an accepted walk has met: each word asked for is in memory, none was read on over a page end, and at the end each has the mark of
 -- the role that it was read in. So the linear reading on the turned memory gets the words that it needs.
 use mathlib.Core.Path.{◌≡◌, refl, ap, sym, subst, ◌∙◌}
-use mathlib.Core.Bool.{Bool, true, false, not}
+use mathlib.Core.Bool.{Bool, true, false}
 use mathlib.Core.List.{List, [], ◌∷◌}
 use Prim.Native.Nat.{ℕ, zero, suc, ◌+◌, ◌/◌, ◌<◌, ◌≤◌}
 use native.Mathlib.Omega.{arith}
@@ -107,7 +107,7 @@ pub record WalkedOn (m marks after : List ℕ) : Type 0 where
   pub kept : Kept marks after
   pub size : length after ≡ length m
 
-pub walks-on : {held : ℕ} {m : List ℕ} {A : Type 0} {after marks : List ℕ} {a : A} {p : Reading A} → length marks ≡ length m → Walks held m after a marks p
+pub walks-on : {held : ℕ} {m : List ℕ} {A : Type 0} {after : List ℕ} {a : A} {marks : List ℕ} {p : Reading A} → length marks ≡ length m → Walks held m after a marks p
     → WalkedOn m marks after
 walks-on l (ends e _) = record { kept = kept_same e; size = ap length (sym e) ∙ l }
 walks-on {m} {marks} l (goes {q} o t s w) =
@@ -131,17 +131,17 @@ module _ (held : ℕ) (m : List ℕ) (b : Words m) (fin : List ℕ) where
       → get_or (turned_memory fin m) (q.address / 2) 0 ≡ turned (mark q.role) (word_of m q.address)
   word_after q e = turned-word fin m (q.address / 2) ∙ ap (λ (k : ℕ). turned k (word_of m q.address)) e
 
-  pub follows : {A B : Type 0} {R : ℕ → A → B → Type 0} {P : A → Type 0} {n c : ℕ} {after marks : List ℕ} {a : A} {p : Reading A} {q : Reading B}
+  pub follows : {A B : Type 0} {R : ℕ → A → B → Type 0} {P : A → Type 0} {after : List ℕ} {a : A} {n c : ℕ} {marks : List ℕ} {p : Reading A} {q : Reading B}
       → length marks ≡ length m → Kept after fin → Walks held m after a marks p → Reads P n p → c + n ≤ 12000 → Alike held m R c p q → Follows R c p q a
   unfolding run_from asked
   follows {R} {c} l k (ends _ e) (Bounds.dones _) i (dones {b = y} r) =
       record { count = c; result = y; before = ap (given c) e; after = refl; related = subst (λ x. R c x y) e r; addresses = refl }
-  follows {c} {marks} l k (goes {q} o t s w) (Bounds.asks {k = j} h g) i (asks {r} e x) =
+  follows {n} {c} {marks} l k (goes {q} o t s w) (Bounds.asks {k = j} h g) i (asks {r} e x) =
       let there : q.address / 2 < length marks = rw (← l) at (ltb-true (q.address / 2) (length m) t) in
       let size = length-set marks (q.address / 2) (mark q.role) ∙ l in
       let own = marked-there marks q there in
       let final = (kept_on (walks-on size w).kept k).keeps (q.address / 2) (ap (λ (n : ℕ). eqb n 0) own ∙ mark-real q.role) ∙ own in
-      let rest = follows {c = c + 1} size k w (g (word_of m q.address) (b (q.address / 2))) (omega arith) (x o (omega arith)) in
+      let rest = follows {n = j} {c = c + 1} size k w (g (word_of m q.address) (b (q.address / 2))) (omega arith) (x o (omega arith)) in
       record {
         count = rest.count;
         result = rest.result;
