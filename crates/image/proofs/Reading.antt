@@ -106,7 +106,7 @@ module _ {A : Type 0} (f : List ℕ → Outcome → A) (refused : (rs qs : List 
   as_read (Refused n) rs qs m h = refused rs qs n
 
   -- a script fed whole; its length fits 64 bits, as every slice's does
-  fed-image : (bytes : List ℕ) → length bytes < 2 ^ 64 → Bytes bytes → (t : Fed) → t ≡ feeding bytes beginning (replicate 25 0) (replicate 16384 0)
+  pub fed-image : (bytes : List ℕ) → length bytes < 2 ^ 64 → Bytes bytes → (t : Fed) → t ≡ feeding bytes beginning (replicate 25 0) (replicate 16384 0)
       → f t.registers (outcome t.stepped) ≡ f (registers_of bytes) (script bytes)
   unfolding registers_of beginning
   fed-image bytes h w t e =

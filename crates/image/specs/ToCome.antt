@@ -3,7 +3,6 @@ use Rattle.std.specs.Prelude.{ℕ, ◌+◌, ◌-◌, ◌<◌, ◌≤◌, ◌≡�
 use Rattle.image.specs.declared.Text.{Text}
 use Rattle.image.specs.declared.Text.TheVariants.{Head, Words, Ended}
 use Rattle.image.specs.declared.Piece.{Piece}
-use Rattle.image.specs.declared.Piece.TheVariants as Piece
 use Rattle.image.specs.Written.{word_record, values_text, draw_record, written}
 
 unfoldable pub to_come : (registers memory : List ℕ) → Text → List ℕ
