@@ -7,7 +7,7 @@ use native.Mathlib.Omega.{arith}
 use native.Mathlib.Nat.{zero-add}
 use lib.ListN.{length, get_or, set, drop, length-append}
 use lib.Seq.{set_comm, sets, sets-eq}
-use lib.Dec.{ltb, eqb}
+use lib.Dec.{ltb}
 use borrow.Author.Tests.{eq-eqb}
 use Rattle.memory.specs.Word.{when◌then◌else◌}
 use Rattle.memory.specs.Reading.{Reading, done, refuse, ask, absent, ◌>>=◌, Outcome, given, refused, run_from, run, asked}
@@ -17,7 +17,6 @@ use Rattle.settings.specs.declared.Settings.{Settings}
 use Rattle.state.specs.declared.Fields.{Fields}
 use Rattle.state.specs.declared.State.{State}
 use Rattle.start.specs.declared.StartAnswer.{StartAnswer}
-use Rattle.start.specs.declared.StartAnswer.TheVariants as Start
 use Rattle.start.specs.Top.{registered}
 use Rattle.start.specs.Start.{start_from, started, start_call}
 use Rattle.row.specs.declared.DrawnRow.{DrawnRow}
@@ -32,7 +31,7 @@ use Rattle.addresses.proofs.PlaceLaws.{sets-append, pointed-short}
 use Rattle.addresses.proofs.Trace.{trace-of}
 use Rattle.addresses.proofs.AskedBlocks.{plan-asked}
 use Rattle.addresses.proofs.Asked.{asked-start, row_room}
-use Rattle.listed.specs.Listed.{written, unless_refused, list_after, start_with, start_listed, row_with, called_with, row_listed}
+use Rattle.listed.specs.Listed.{written, unless_refused, start_with, start_listed, row_with, called_with, row_listed}
 use Rattle.listed.specs.Answers.{start_placed, placed}
 
 -- addresses from the first place on
