@@ -8,7 +8,7 @@ use native.Mathlib.Nat.{le_refl}
 use lib.ListN.{get_or, set}
 use lib.Seq.{get_or-set_other}
 use lib.Dec.{eqb}
-use borrow.Author.Tests.{eq-eqb, ne_eqb, eqb-true, eqb-false}
+use borrow.Author.Tests.{ne_eqb, eqb-true, eqb-false}
 use Rattle.memory.proofs.ReadBounds.{Words}
 use Rattle.mending.specs.Mending.{one, nonzero}
 

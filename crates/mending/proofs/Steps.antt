@@ -1,12 +1,11 @@
 -- One step: each change leaves fewer words that are not 0, registers counted, and words of 16 bits; so as many changes as there are such
 -- words are enough, and mending is its first step and the mending of what that leaves.
 use mathlib.Core.Path.{◌≡◌, refl, sym, ap, subst, ◌∙◌}
-use mathlib.Core.Bool.{Bool}
 use mathlib.Core.List.{List}
 use Prim.Native.Nat.{ℕ, zero, suc, ◌+◌, ◌/◌, ◌<◌, ◌≤◌}
 use native.Mathlib.Omega.{arith}
 use native.Mathlib.Nat.{le_refl}
-use lib.ListN.{get_or, set}
+use lib.ListN.{set}
 use lib.Dec.{lit<}
 use Rattle.memory.specs.Address.{next_word}
 use Rattle.memory.proofs.ReadBounds.{Words}
@@ -14,11 +13,10 @@ use Rattle.settings.specs.declared.Settings.{Settings}
 use Rattle.blame.specs.declared.Place.{Place}
 use Rattle.blame.specs.declared.Place.TheVariants.{Register, Memory}
 use Rattle.blame.specs.declared.Verdict.{Verdict}
-use Rattle.blame.specs.declared.Verdict.TheVariants as Verdict
 use Rattle.blame.specs.Blame.{verdict}
 use Rattle.blame.proofs.RowStands.{HeldAt}
-use Rattle.blame.proofs.Frames.{Registers, Judged, whole, blames, Fair, judged, as-it-is, verdict-fair}
-use Rattle.mending.specs.Mending.{settings_after, memory_after, change_of, Stepped, by_verdict, mend_step, Mended, unchanged, with_change, by_step, mended_within, one, nonzero, pointer_words, count, mended}
+use Rattle.blame.proofs.Frames.{Registers, whole, blames, Fair, judged, as-it-is, verdict-fair}
+use Rattle.mending.specs.Mending.{settings_after, memory_after, change_of, by_verdict, mend_step, Mended, unchanged, with_change, by_step, mended_within, one, count, mended}
 use Rattle.mending.specs.Answers.{Fewer}
 use Rattle.mending.proofs.Counts.{one_word, nonzero-fewer, set_words}
 

@@ -1,6 +1,6 @@
 -- The verdict is the frame's: whole where the frame is not refused, with its refusal's number, or its refusal, where it is. The pointer that
 -- it blames for a 7 begins where the refusal tells.
-use mathlib.Core.Path.{◌≡◌, refl, sym, ap, ◌∙◌}
+use mathlib.Core.Path.{◌≡◌, refl}
 use mathlib.Core.Bool.{Bool, true, false}
 use mathlib.Core.List.{List}
 use mathlib.Core.Option.{Option, none, some}
@@ -14,7 +14,7 @@ use Rattle.settings.specs.declared.Settings.{Settings}
 use Rattle.blocks.specs.declared.MainBlock.{MainBlock}
 use Rattle.state.specs.declared.State.{State}
 use Rattle.start.specs.Start.{start_from, started}
-use Rattle.row.specs.Row.{Row, row, answered, Called, row_call}
+use Rattle.row.specs.Row.{Row, row, answered, row_call}
 use Rattle.frame.specs.declared.Progress.{Progress}
 use Rattle.frame.specs.declared.StepAnswer.TheVariants.{Ended}
 use Rattle.frame.specs.Step.{begun, begin, row_step, Stepped, stepped, step}
@@ -23,7 +23,7 @@ use Rattle.blame.specs.declared.Place.{Place}
 use Rattle.blame.specs.declared.Place.TheVariants.{Register}
 use Rattle.blame.specs.declared.Verdict.{Verdict}
 use Rattle.blame.specs.declared.Verdict.TheVariants.{Whole, Blamed, Refused}
-use Rattle.blame.specs.Blame.{leader, blamed, mendable, refused_row, next_state, by_row, rows_within, rows, main_of, by_start, verdict}
+use Rattle.blame.specs.Blame.{blamed, mendable, refused_row, by_row, rows_within, rows, main_of, by_start, verdict}
 use Rattle.blame.proofs.Frames.{start-refused, tow-told}
 use Rattle.mending.specs.Mending.{place_address}
 use Rattle.mending.proofs.Steps.{Sixteen}

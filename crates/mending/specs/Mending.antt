@@ -1,7 +1,6 @@
 -- Document 02, "Mending damaged lists": "draws, and at each refusal sets one pointer's words to 0 and starts again from the same latch".
 use Rattle.std.specs.Prelude.{ℕ, zero, suc, ◌+◌, ◌/◌, Bool, List, [], ◌∷◌, set, eqb}
 use Rattle.memory.specs.Word.{when◌then◌else◌}
-use Rattle.memory.specs.declared.Refusal.{Refusal}
 use Rattle.memory.specs.Address.{next_word}
 use Rattle.settings.specs.declared.Settings.{Settings}
 use Rattle.settings.specs.declared.PointerWords.{PointerWords}
@@ -9,7 +8,6 @@ use Rattle.blame.specs.declared.Place.{Place}
 use Rattle.blame.specs.declared.Place.TheVariants.{Register, Memory}
 use Rattle.mending.specs.declared.Change.{Change}
 use Rattle.blame.specs.declared.Verdict.{Verdict}
-use Rattle.blame.specs.declared.Verdict.TheVariants as Verdict
 use Rattle.mending.specs.declared.MendAnswer.{MendAnswer}
 use Rattle.mending.specs.declared.MendAnswer.TheVariants.{Whole, Changed, Refused}
 use Rattle.blame.specs.Blame.{first_word, second_word, verdict}
