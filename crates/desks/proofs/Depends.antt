@@ -1,6 +1,6 @@
 -- A frame depends on the words that it read: of two memories of one length that agree on them, frame and lists are the same; and so the
 -- row beside its cut.
-use mathlib.Core.Path.{◌≡◌, refl, sym, ap, ap₂, ◌∙◌}
+use mathlib.Core.Path.{◌≡◌, refl, sym, ap, ◌∙◌}
 use mathlib.Core.Bool.{Bool, true, false}
 use mathlib.Core.List.{List, [], ◌∷◌, ◌++◌}
 use Prim.Native.Nat.{ℕ, suc, ◌+◌, ◌/◌}
@@ -17,7 +17,7 @@ use Rattle.settings.specs.declared.PointerWords.{PointerWords}
 use Rattle.state.specs.declared.State.{State}
 use Rattle.start.specs.Start.{start_from, started, start_call}
 use Rattle.row.specs.Row.{row}
-use Rattle.frame.specs.Frame.{Frame, blank, frame}
+use Rattle.frame.specs.Frame.{blank, frame}
 use Rattle.beside.specs.declared.BesideAnswer.TheVariants.{Refused}
 use Rattle.beside.specs.Beside.{BesideCalled, beside_called, told_call, row_below, after_start, row_above, with_top, beside_call}
 use Rattle.desks.specs.Finds.{words_read, Finds, later, Buffers, frame_lent, frame_over, lists, joined, reads_of, beside_read}

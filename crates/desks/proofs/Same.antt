@@ -19,7 +19,7 @@ use Rattle.frame.specs.declared.BeginAnswer.{BeginAnswer}
 use Rattle.frame.specs.declared.BeginAnswer.TheVariants as Begin
 use Rattle.frame.specs.declared.StepAnswer.{StepAnswer}
 use Rattle.frame.specs.declared.StepAnswer.TheVariants.{Drawn, Ended, Refused}
-use Rattle.frame.specs.Step.{begun, begin, Stepped, stepped, row_step, step}
+use Rattle.frame.specs.Step.{begun, begin, Stepped, stepped, step}
 use Rattle.frame.specs.Frame as Frame
 use Rattle.frame.specs.Frame.{Frame, with_row, by_answer, by_step, blank, within, rest, from_begin, frame}
 use Rattle.frame.proofs.StepLaws.{no_line, any-buffer}

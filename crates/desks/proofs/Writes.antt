@@ -8,9 +8,9 @@ use lib.Seq.{get_or-set_other}
 use Rattle.memory.proofs.Agree.{All, none, also, SameWord}
 use Rattle.settings.specs.declared.Settings.{Settings}
 use Rattle.frame.specs.Frame.{Frame, blank, frame}
-use Rattle.desks.specs.Finds.{Finds, frame_over, lists, joined, reads_of, Cut, last_of, beside_after, beside_list}
-use Rattle.desks.specs.Depends.{◌∈◌, here, there, SameAt, Write, written, Between, found, Spare, Depends}
-use Rattle.desks.proofs.Same.{Equal, frame-stays}
+use Rattle.desks.specs.Finds.{frame_over, lists, joined, reads_of, Cut, last_of, beside_after, beside_list}
+use Rattle.desks.specs.Depends.{◌∈◌, here, there, Write, written, Between, found, Spare, Depends}
+use Rattle.desks.proofs.Same.{frame-stays}
 use Rattle.desks.proofs.Depends.{all_left, all_right, frame-each, frame-over, frame-depends, beside-depends}
 
 -- at every address of a list
