@@ -1,6 +1,6 @@
 -- Demand 3 with lists: a call stands on the state that the effects above it make, so that the row drawn alone is the same reading and asks for
 -- the same addresses.
-use mathlib.Core.Path.{◌≡◌, refl, ap, ap₂, sym, ◌∙◌}
+use mathlib.Core.Path.{◌≡◌, refl, ap, ap₂, ◌∙◌}
 use mathlib.Core.Bool.{Bool, true, false, ◌&&◌}
 use mathlib.Core.List.{List, [], ◌∷◌, ◌++◌}
 use Prim.Native.Nat.{ℕ, ◌+◌, ◌/◌}
@@ -24,7 +24,7 @@ use Rattle.joining.specs.Join.{empty, apply}
 use Rattle.joining.proofs.Joining.{apply-empty}
 use Rattle.effect.specs.Demand.{state_after}
 use Rattle.effect.proofs.Alone.{Stands, goes, stays, tail}
-use Rattle.listed.specs.Listed.{written, unless_refused, list_after, RowListed, row_with, called_with, row_listed}
+use Rattle.listed.specs.Listed.{written, unless_refused, list_after, row_with, called_with, row_listed}
 use Rattle.listed_alone.specs.DemandListed.{Call, is_row, on_lent, in_turn, row_alone, drawn_alone, Demand3Listed}
 
 -- ---- as many addresses as words ----
