@@ -11,6 +11,7 @@ use row::RowAnswer;
 use settings::Settings;
 use start::StartAnswer;
 use state::{Fields, State};
+use std::io;
 
 mod frames; // the frames in memory
 mod report; // what is written
@@ -18,38 +19,43 @@ mod same; // whether two outcomes of a row are the same
 
 // A call of a frame drawn in turn: its outcome; and what its row is drawn from alone, the fields reached and the effects of the
 // rows above, joined.
-#[derive(Drop)]
+#[derive(Clone, Copy)]
 struct Turn {
     outcome: Outcome,
     fields: Fields,
     above: Effect,
 }
 
-fn main() {
+fn main(rt: HostRuntime) -> io::Result<()> {
     let mem = frames::words();
     let mut count = report::Count {
         same: 0,
         differing: 0,
     };
     for n in 0..5 {
-        count = redraw_frame(n, &mem, count);
+        count = redraw_frame(&rt, n, &mem, count)?;
     }
-    report::total(count);
+    report::total(&rt, count)
 }
 
 // A frame drawn in turn, and then each of its rows alone.
-fn redraw_frame(n: u16, mem: &[u16], count: report::Count) -> report::Count {
-    report::frame(n);
+fn redraw_frame(
+    rt: &impl Print,
+    n: u16,
+    mem: &[u16],
+    count: report::Count,
+) -> io::Result<report::Count> {
+    report::frame(rt, n)?;
     let settings = frames::settings(n);
     match start::start(settings, mem, frames::latch(n)) {
         StartAnswer::Refused(r) => {
-            report::refused(r);
-            count
+            report::refused(rt, r)?;
+            Ok(count)
         }
         StartAnswer::Accepted(s) => {
             let first = s.state;
             let turns = draw_in_turn(settings, mem, first);
-            redraw_rows(settings, mem, first.latch, turns, count)
+            redraw_rows(rt, settings, mem, first.latch, turns, count)
         }
     }
 }
@@ -91,12 +97,13 @@ fn none_above() -> Effect
 
 // Each of the eight rows alone, in the order of a linear congruential generator.
 fn redraw_rows(
+    rt: &impl Print,
     settings: Settings,
     mem: &[u16],
     latch: u16,
     turns: [Turn; 8],
     count: report::Count,
-) -> report::Count {
+) -> io::Result<report::Count> {
     let mut count = count;
     let mut call = 7;
     for _ in 0..8u32 {
@@ -106,9 +113,9 @@ fn redraw_rows(
         let above = t.above;
         let alone = draw_alone(settings, mem, latch, fields, above);
         let outcome = t.outcome;
-        count = report::row(call, same::outcomes(alone, outcome), alone, count);
+        count = report::row(rt, call, same::outcomes(alone, outcome), alone, count)?;
     }
-    count
+    Ok(count)
 }
 
 // A row into a buffer.

@@ -6,7 +6,7 @@ use state::Fields;
 use windows::{Window, WindowInHand};
 
 // A row call's answer, and its row buffer after it.
-#[derive(Drop)]
+#[derive(Clone, Copy)]
 pub(crate) struct Outcome {
     pub(crate) answer: RowAnswer,
     pub(crate) cells: [u32; 132],
