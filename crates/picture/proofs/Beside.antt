@@ -21,7 +21,7 @@ use Rattle.frame.specs.declared.Progress.{Progress}
 use Rattle.frame.specs.Step.{begun, begin, row_step, Stepped, step}
 use Rattle.frame.specs.Frame.{Frame, by_answer, by_step, blank, within, rest, frame}
 use Rattle.frame.proofs.Frames.{frame-count}
-use Rattle.beside.specs.Beside.{told, with_top, row_below, after_start, row_above, beside_call}
+use Rattle.beside.specs.Beside.{told, with_one_line, with_top, row_below, after_start, row_above, beside_call}
 use Rattle.picture.specs.Picture.{picture_row, picture_rows, rows_from, onward, below_of, below_rows, first_row, above_row, picture}
 use Rattle.picture.specs.Beside.{FirstOf, IsFirst, ComesInBeside}
 use Rattle.picture.proofs.RowLines.{RowLike, rows, row-like}
@@ -57,7 +57,7 @@ module _ (σ : Settings) (m : List ℕ) (w : Words m) (last : State) (n : ℕ) (
   unfolding row_below row_call rest within with_cursor
   below-first =
       rw (eq-eqb (length buffer) 132 sized)
-      (first_step σ m w _ 0 buffer (within n σ m) (onward (suc n) last) refl (λ cs. refl)
+      (first_step σ m w (with_one_line last.fields) 0 buffer (within n σ m) (onward (suc n) last) refl (λ cs. refl)
       (run-rel 0 m (row-like σ last.fields 1 (suc n) (omega arith) (omega arith) (omega arith) fits last.latch)))
 
   below_of_lem : (r : Option Refusal) (s : Option State) → r ≡ none → s ≡ some last → IsFirst (row_below σ m last buffer) (below_of σ m (suc n) r s)

@@ -120,7 +120,7 @@ linked-along {linear} {m} (linked {a} {b} {g} {k} reads-a reads-b reads-g same) 
     let two : main' ≡ b = cc in
     let own : run m (background_block linear a.rows (first_format a.lines)) ≡ given words ground = rw one at block in
     let three : ground ≡ g = cc in
-    along-first (rw (two, three) (sym same)) next rows rows'
+    along-first (ap (λ (row : BackgroundRow). row.block.link.address) three ∙ rw two (sym same)) next rows rows'
 
 -- past row 0 of one list a line has the place that it has in the other
 next_place : (hs ks : List ℕ) (n y : ℕ) → get_elem? hs 0 ≡ some n → ((rest : List ℕ) → hs ≡ n ∷ rest → Along rest ks) → y + n < sum hs → y < sum ks

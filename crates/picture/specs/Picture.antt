@@ -1,6 +1,6 @@
 -- The picture of a shifted frame. Document 02: "Long bulletins should glide; windows stand still." What a panel shows of it, line by
 -- line, is ours: the rows are those of starts and row calls, and no rule of a row is said again.
-use Rattle.std.specs.Prelude.{ℕ, Bool, ◌&&◌, List, [], ◌∷◌, ◌++◌, map, ℤ, pos, nat_abs, length, drop, leb}
+use Rattle.std.specs.Prelude.{ℕ, ◌&&◌, List, [], ◌∷◌, ◌++◌, map, ℤ, pos, nat_abs, length, drop, leb}
 use Rattle.std.proofs.Math.Option.{Option, none, some}
 use Rattle.std.specs.Int.Signed.{lt_z}
 use Rattle.memory.specs.Word.{when◌then◌else◌}
@@ -10,7 +10,6 @@ use Rattle.settings.specs.declared.Settings.{Settings}
 use Rattle.blocks.specs.declared.RowFormat.{RowFormat}
 use Rattle.windows.specs.declared.WindowInHand.{WindowInHand}
 use Rattle.windows.specs.declared.WindowInHand.TheVariants as InHand
-use Rattle.state.specs.declared.Fields.{Fields}
 use Rattle.state.specs.declared.State.{State}
 use Rattle.state.specs.State.{state_of}
 use Rattle.row.specs.declared.RowAnswer.{RowAnswer}
@@ -23,7 +22,6 @@ use Rattle.frame.specs.Step.{begin}
 use Rattle.frame.specs.Frame.{FrameRow, Frame, blank, within, rest, frame}
 use Rattle.beside.specs.Beside.{with_top}
 use Rattle.panel.specs.declared.Columns.{Columns}
-use Rattle.panel.specs.declared.Place.{Place}
 use Rattle.panel.specs.declared.Placed.{Placed}
 use Rattle.panel.specs.declared.Placed.TheVariants.{Nowhere, At}
 use Rattle.panel.specs.declared.Background.{Background}
