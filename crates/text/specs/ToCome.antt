@@ -1,14 +1,12 @@
 -- What of a text is still to come, and what a call for its next lines gives. No rules of their own.
 use Rattle.std.specs.Prelude.{ℕ, ◌+◌, ◌<◌, ◌≤◌, ◌≡◌, List, [], ◌++◌, length, take}
 use Rattle.settings.specs.declared.Settings.{Settings}
-use Rattle.frame.specs.declared.Progress.{Progress}
 use Rattle.frame.specs.Step.{in_bound}
 use Rattle.frame.specs.Frame.{Frame, rest}
 use Rattle.lines.specs.Lines.{refusal_line, script_line}
 use Rattle.text.specs.declared.Text.{Text}
 use Rattle.text.specs.declared.Text.TheVariants.{Rows, Refused, NoScript, Ended}
 use Rattle.text.specs.declared.Lines.{Lines}
-use Rattle.text.specs.declared.Lines.TheVariants as Lines
 use Rattle.text.specs.Text.{rows_text, last_line}
 
 -- the text of a frame in progress: its next row's number counts the rows before
