@@ -21,7 +21,6 @@ use Rattle.answers.specs.AnswerNumbers.{with_refusal}
 use Rattle.blame.specs.declared.Place.{Place}
 use Rattle.blame.specs.declared.Place.TheVariants.{Register, Memory}
 use Rattle.blame.specs.declared.Verdict.{Verdict}
-use Rattle.blame.specs.declared.Verdict.TheVariants as Verdict
 use Rattle.blame.specs.Blame.{as_it_is, verdict}
 use Rattle.blame.proofs.VerdictLaws.{settings-bad, main-refused}
 use Rattle.blame.proofs.Frames.{whole, blames, Fair, judged, as-it-is, verdict-fair, main-numbers}
