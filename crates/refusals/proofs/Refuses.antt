@@ -10,7 +10,7 @@ use borrow.Author.Tests.{eqb-true, ltb-false}
 use Rattle.memory.specs.declared.Fault.{Fault}
 use Rattle.memory.specs.declared.Pointer.{Pointer}
 use Rattle.memory.specs.Word.{when◌then◌else◌}
-use Rattle.memory.specs.Reading.{Role, Ask, Reading, done, refuse, ask, ◌>>=◌, read_as, check, check_of, each, Outcome, given, refused, run_from}
+use Rattle.memory.specs.Reading.{Role, Ask, Reading, nobody, done, refuse, ask, ◌>>=◌, read_as, check, check_of, Outcome, given, refused, run_from}
 use Rattle.memory.specs.Address.{onward, words}
 use Rattle.memory.proofs.ReadBounds.{if-cases, both}
 use Rattle.holding.proofs.Holds.{Holds}
@@ -64,7 +64,7 @@ check-of-then n p false h f = refuses h
 
 pub check-then : {B : Type 0} {ns : List ℕ} (n : ℕ) (b : Bool) {k : Unit {0} → Reading B} → has n ns ≡ true
     → ((u : Unit {0}) → b ≡ true → Refuses ns (k u)) → Refuses ns (check n b >>= k)
-check-then n b h f = check-of-then n _ b h f
+check-then n b h f = check-of-then n nobody b h f
 
 -- a check whose number the list has unless it is met
 pub unless-then : {B : Type 0} {ns : List ℕ} (n : ℕ) (b : Bool) {k : Unit {0} → Reading B} → (b ≡ false → has n ns ≡ true)

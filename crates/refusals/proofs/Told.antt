@@ -2,14 +2,14 @@
 use mathlib.Core.Path.{◌≡◌, refl, sym, ◌∙◌}
 use mathlib.Core.Bool.{Bool, true, false, ◌&&◌, ◌||◌, not}
 use mathlib.Core.List.{List, [], ◌∷◌, ◌++◌}
-use Prim.Native.Nat.{ℕ, zero, suc, ◌+◌, ◌-◌}
+use Prim.Native.Nat.{ℕ, ◌+◌, ◌-◌}
 use native.Mathlib.Omega.{arith}
 use lib.ListN.{length}
 use lib.Dec.{ltb, leb, eqb}
 use borrow.Author.Tests.{ne_eqb}
 use Rattle.memory.specs.declared.Pointer.{Pointer}
-use Rattle.memory.specs.Reading.{◌>>=◌, one_pointer, Outcome}
-use Rattle.memory.specs.Address.{null, onward}
+use Rattle.memory.specs.Reading.{one_pointer, Outcome}
+use Rattle.memory.specs.Address.{null}
 use Rattle.memory.proofs.ReadBounds.{if-cases, both}
 use Rattle.settings.specs.declared.PointerWords.{PointerWords}
 use Rattle.settings.specs.declared.Settings.{Settings}
@@ -46,7 +46,7 @@ use Rattle.joining.specs.declared.Part.{Part}
 use Rattle.effect.specs.Effect.{part_of, latch_with, outcome_for, effect_call}
 use Rattle.converter.specs.Below.{row_below}
 use Rattle.refusals.specs.Refusals.{sheet_numbers, start_numbers, shift_numbers, effect_numbers, row_numbers, of_sheet, of_start, of_shift, of_row, of_part, of_effect, has, within}
-use Rattle.refusals.proofs.Refuses.{has_more, within_more, Refuses, weaken, dones, refuses, asks, bind, check-refuses, check-then, check-of-then, unless-then, if-refuses, from-shared, words-refuse, as-refuses, Told, given-told, refused-told, run-told}
+use Rattle.refusals.proofs.Refuses.{has_more, within_more, Refuses, weaken, dones, bind, check-refuses, check-then, check-of-then, unless-then, if-refuses, from-shared, words-refuse, as-refuses, Told, given-told, refused-told, run-told}
 
 -- the checks on settings
 pub settings-refuse : {ns : List ℕ} (σ : Settings) → has 2 ns ≡ true → has 17 ns ≡ true → Refuses ns (check_settings σ)
