@@ -3,7 +3,7 @@
 use mathlib.Core.Path.{◌≡◌, refl, sym, ap, ap₂, subst, ◌∙◌}
 use mathlib.Core.Bool.{Bool, true, false}
 use mathlib.Core.List.{List, [], ◌∷◌, ◌++◌}
-use Prim.Native.Nat.{ℕ, ◌*◌, ◌/◌, ◌%◌, ◌<◌}
+use Prim.Native.Nat.{ℕ, ◌*◌, ◌/◌, ◌<◌}
 use native.Mathlib.Omega.{arith}
 use lib.ListN.{length, get_or, set, length-set}
 use lib.Seq.{get_or-set_same, get_or-set_other}
@@ -14,16 +14,16 @@ use Rattle.memory.proofs.Agree.{All, SameWord}
 use Rattle.state.specs.declared.State.{State}
 use Rattle.writer.specs.declared.Span.{Span}
 use Rattle.writer.specs.declared.WriteAnswer.TheVariants.{Written}
-use Rattle.writer.specs.Writer.{inside, share, may_write, Wrote, wrote, refused_with, write_word}
+use Rattle.writer.specs.Writer.{inside, share, may_write, wrote, refused_with, write_word}
 use Rattle.writer.proofs.WriterLaws.{Inside, may-inside, Changed, same, word, changed, in_both}
 use Rattle.frame.specs.Frame.{frame}
 use Rattle.desks.specs.Finds.{reads_of, beside_list}
-use Rattle.desks.specs.Depends.{◌∈◌, Write, Between, Spare, Depends}
+use Rattle.desks.specs.Depends.{Between, Spare}
 use Rattle.desks.proofs.Depends.{all_left, all_right}
 use Rattle.desks.proofs.Writes.{every, every-also, depends}
 use Rattle.two_desks.specs.DeskCalls as Calls
 use Rattle.two_desks.specs.DeskCalls.{Call, Answer, read_by, answer, state_after, memory_after}
-use Rattle.two_desks.specs.Desks.{Desk, forecaster, supervisor, other, is, Spans, States, with_state, Action, Outcome, outcome, in_turn, alone, gets, reads, ClearOf, Accepted, TwoDesks}
+use Rattle.two_desks.specs.Desks.{Desk, forecaster, supervisor, other, is, Spans, States, Action, Outcome, outcome, in_turn, alone, gets, reads, ClearOf, Accepted, TwoDesks}
 use Rattle.two_desks.proofs.CallLaws.{answer-same, read_same}
 
 -- ---- two memories with the same words outside a span ----

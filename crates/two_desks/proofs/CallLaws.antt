@@ -18,7 +18,7 @@ use Rattle.row.specs.Row as Rows
 use Rattle.scroll.specs.Scroll as Scrolls
 use Rattle.state.specs.State.{state_of}
 use Rattle.beside.specs.Beside.{BesideCalled, with_one_line, with_top, row_above}
-use Rattle.listed.specs.Listed.{unless_refused, list_after, start_with, start_listed, row_with, called_with, RowListed, row_listed}
+use Rattle.listed.specs.Listed.{unless_refused, list_after, start_with, start_listed, called_with, row_listed}
 use Rattle.listed_beside.specs.ListedBeside.{BesideListed, told_listed, above_with, below_listed, above_listed, beside_listed}
 use Rattle.desks.specs.Finds.{words_read, beside_read}
 use Rattle.desks.proofs.ReadLaws.{read-outcome, read_asked, read-words}
@@ -26,7 +26,7 @@ use Rattle.desks.proofs.Same.{row_same}
 use Rattle.desks.proofs.Depends.{above_same, beside-depends}
 use Rattle.writer.specs.declared.Span.{Span}
 use Rattle.writer.specs.declared.WriteAnswer.TheVariants.{Written}
-use Rattle.writer.specs.Writer.{share, may_write, Wrote, wrote, refused_with, write_word}
+use Rattle.writer.specs.Writer.{share, may_write, wrote, refused_with, write_word}
 use Rattle.two_desks.specs.DeskCalls as Calls
 use Rattle.two_desks.specs.DeskCalls.{Call, sized, read_by, answer}
 

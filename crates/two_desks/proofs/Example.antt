@@ -3,7 +3,7 @@
 use Prim.Native.Nat.{ℕ, ◌*◌, ◌/◌}
 use mathlib.Core.Path.{◌≡◌, refl, sym, ap, subst, ◌∙◌}
 use mathlib.Core.Bool.{Bool, true, false, not, ◌&&◌}
-use mathlib.Core.List.{List, [], ◌∷◌, ◌++◌}
+use mathlib.Core.List.{List, [], ◌∷◌}
 use native.Mathlib.Omega.{arith}
 use lib.ListN.{length, replicate}
 use borrow.Author.Tests.{not-true}
@@ -34,7 +34,7 @@ use Rattle.writer.specs.declared.Span.{Span}
 use Rattle.writer.specs.declared.WriteAnswer.TheVariants.{Written}
 use Rattle.writer.specs.Writer.{inside, write_word}
 use Rattle.desks.specs.Finds.{in_memory}
-use Rattle.desks.specs.Depends.{◌∈◌, here, there}
+use Rattle.desks.specs.Depends.{here, there}
 use Rattle.two_desks.specs.DeskCalls.{Call, start, row, write, read_by, answer, state_after, memory_after}
 use Rattle.two_desks.specs.Desks.{Desk, forecaster, supervisor, Spans, States, Action, in_turn, alone, gets, reads, ClearOf}
 use Rattle.two_desks.proofs.Apart.{two-desks}
@@ -114,6 +114,7 @@ clear s (a ∷ l) = not (inside s (2 * (a / 2))) && clear s l
 
 clear_of : (s : Span) (l : List ℕ) → clear s l ≡ true → ClearOf s l
 unfolding clear
+clear_of s [] h a x = elim x [ ]
 clear_of s (b ∷ l) h a here = not-true _ (both (not (inside s (2 * (b / 2)))) (clear s l) h).0
 clear_of s (b ∷ l) h a (there i) = clear_of s l (both (not (inside s (2 * (b / 2)))) (clear s l) h).1 a i
 

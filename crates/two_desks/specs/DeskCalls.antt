@@ -18,7 +18,7 @@ use Rattle.listed_beside.specs.ListedBeside.{BesideListed, beside_listed}
 use Rattle.desks.specs.Finds.{words_read, beside_read}
 use Rattle.writer.specs.declared.Span.{Span}
 use Rattle.writer.specs.declared.WriteAnswer.{WriteAnswer}
-use Rattle.writer.specs.Writer.{Wrote, write_word}
+use Rattle.writer.specs.Writer.{write_word}
 
 -- What a desk calls: a start from a latch; a row; a shift call; the row beside the cut; a writer call. Settings, buffers and lists are
 -- those of the call, of any size; the state is the desk's.
