@@ -1,10 +1,13 @@
 #![tactic(auto)]
 // Draws scripts from files, and compares what is drawn with stored output, byte by byte.
-ghost use Rattle.std.specs.Prelude.{◌≡◌, ◌≤◌, length, take};
-ghost use Rattle.io.specs.Counts.{IsPrefixLen};
+ghost use Rattle.std.specs.Prelude.{◌≡◌, ◌≤◌, IfOk, length, take};
+ghost use Rattle.vectors.specs.Counts.{IsPrefixLen};
 
-use libc::STDOUT_FILENO;
 use script::Step;
+use std::fs::File;
+use std::io;
+use std::io::Read;
+use std::rt::Files;
 use text::Lines;
 
 // How far the output agrees with the stored bytes, and whether it differs there.
@@ -15,23 +18,23 @@ struct Place {
 }
 
 // The file `names` has the scripts' names, one to a line.
-fn main() {
-    let mut names = io::buffer();
-    let n = read_file(b"names", &mut names);
-    run(&names[..n])
+fn main(rt: HostRuntime) -> io::Result<()> {
+    let mut names = [0u8; 4096];
+    let n = read_file(&rt, b"names", &mut names);
+    run(&rt, &names[..n])
 }
 
-fn run(names: &[u8]) {
+fn run(rt: &(impl Files + Print + Eprint), names: &[u8]) -> io::Result<()> {
     let mut at = 0;
     let mut scripts: u64 = 0;
     let mut same: u64 = 0;
     while at < names.len() {
         let end = line_end(names, at);
-        same += run_script(&names[at..end]);
+        same += run_script(rt, &names[at..end])?;
         scripts += 1;
         at = end + 1;
     }
-    print_totals(scripts, same)
+    print_totals(rt, scripts, same)
 }
 
 // The end of the line that begins at `at`.
@@ -50,51 +53,45 @@ fn line_end(text: &[u8], at: usize) -> usize
 }
 
 // One script, from NAME.script, and its stored output, from NAME.out: 1 if they agree, or 0.
-fn run_script(name: &[u8]) -> u64
-    ensures { result ≤ 1 }
+fn run_script(rt: &(impl Files + Print + Eprint), name: &[u8]) -> io::Result<u64>
+    ensures { IfOk result (λ n. n ≤ 1) }
 {
-    let mut bytes = io::buffer();
-    let n = read_named(name, b".script", &mut bytes);
-    let mut want = io::buffer();
-    let m = read_named(name, b".out", &mut want);
+    let mut bytes = [0u8; 4096];
+    let n = read_named(rt, name, b".script", &mut bytes);
+    let mut want = [0u8; 4096];
+    let m = read_named(rt, name, b".out", &mut want);
     let place = draw_script(&bytes[..n], &want[..m]);
-    io::write_all(STDOUT_FILENO, name);
-    print_answer(place, m)
+    rt.write_all(name)?;
+    print_answer(rt, place, m)
 }
 
 // The output is the stored bytes if it does not differ, and reaches their end.
-fn print_answer(place: Place, stored: usize) -> u64
-    ensures { result ≤ 1 }
+fn print_answer(rt: &impl Print, place: Place, stored: usize) -> io::Result<u64>
+    ensures { IfOk result (λ n. n ≤ 1) }
 {
     if !place.differs & (place.at == stored) {
-        io::write_all(STDOUT_FILENO, b" same\n");
-        return 1;
+        println!(rt; " same")?;
+        return Ok(1);
     }
-    io::write_all(STDOUT_FILENO, b" differs at byte ");
-    io::print_decimal(STDOUT_FILENO, place.at as u64);
-    io::write_all(STDOUT_FILENO, b"\n");
-    0
+    let at = place.at;
+    println!(rt; " differs at byte {at}")?;
+    Ok(0)
 }
 
-fn print_totals(scripts: u64, same: u64)
+fn print_totals(rt: &impl Print, scripts: u64, same: u64) -> io::Result<()>
     requires { same ≤ scripts }
 {
-    io::write_all(STDOUT_FILENO, b"scripts ");
-    io::print_decimal(STDOUT_FILENO, scripts);
-    io::write_all(STDOUT_FILENO, b", same ");
-    io::print_decimal(STDOUT_FILENO, same);
-    io::write_all(STDOUT_FILENO, b", differing ");
-    io::print_decimal(STDOUT_FILENO, scripts - same);
-    io::write_all(STDOUT_FILENO, b"\n");
+    let differing = scripts - same;
+    println!(rt; "scripts {scripts}, same {same}, differing {differing}")
 }
 
-fn read_named(name: &[u8], ending: &[u8], buffer: &mut [u8]) -> usize
+fn read_named(rt: &(impl Files + Eprint), name: &[u8], ending: &[u8], buffer: &mut [u8]) -> usize
     ensures { IsPrefixLen result buffer.new }
 {
     let mut path = [0u8; 64];
     let n = put(name, 0, &mut path);
     let end = put(ending, n, &mut path);
-    read_file(&path[..end], buffer)
+    read_file(rt, &path[..end], buffer)
 }
 
 // Puts `text` in `out` at `at`, as far as there is room.
@@ -114,20 +111,39 @@ fn put(text: &[u8], at: usize, out: &mut [u8]) -> usize
 }
 
 // The bytes of a file. One that cannot be opened or does not fit counts as empty, and no output is empty.
-fn read_file(path: &[u8], buffer: &mut [u8]) -> usize
+fn read_file(rt: &(impl Files + Eprint), path: &[u8], buffer: &mut [u8]) -> usize
     ensures { IsPrefixLen result buffer.new }
 {
-    let fd = os::open_read(path);
-    if fd < 0 {
-        os::fail(path);
-        return 0;
+    let text = std::str::from_utf8(path).unwrap_or("");
+    match File::open(rt, text) {
+        Ok(file) => {
+            let mut from = file;
+            let n = read_full(&mut from, buffer);
+            if n == buffer.len() {
+                return 0;
+            }
+            n
+        }
+        Err(e) => {
+            let _ = eprintln!(rt; "{text}: {e}");
+            0
+        }
     }
-    let n = io::read_full(fd, buffer);
-    libc::close(fd);
-    if n == buffer.len() {
-        return 0;
+}
+
+// Reads until `buffer` is full, the input ends or a read fails: how many bytes are at its start.
+fn read_full<R: Read>(from: &mut R, buffer: &mut [u8]) -> usize
+    ensures { IsPrefixLen result buffer.new }
+{
+    let mut done = 0;
+    while done < buffer.len() {
+        let n = from.read(&mut buffer[done..]).unwrap_or(0);
+        if n == 0 {
+            break;
+        }
+        done += n;
     }
-    n
+    done
 }
 
 // Memory is 16,384 words, cleared for each script.
