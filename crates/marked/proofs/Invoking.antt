@@ -91,7 +91,7 @@ count-matches (suc k) m v h j =
     kept n b e = same_tests _ _ n (λ c. rw e (and-true (matches (m / 2) (v / 2) c)))
 
     gone : (n : ℕ) (b : Bool) → b ≡ false → how_many (λ c. matches (m / 2) (v / 2) c && b) n ≡ 0
-    gone n b e = same_tests _ _ n (λ c. rw e (and-false (matches (m / 2) (v / 2) c))) ∙ none_pass n
+    gone n b e = same_tests (λ (c : ℕ). matches (m / 2) (v / 2) c && b) (λ (c : ℕ). false) n (λ c. rw e (and-false (matches (m / 2) (v / 2) c))) ∙ none_pass n
 
     digit : (a b : ℕ) → a < 2 → b < 2 → how_many (matches (m / 2) (v / 2)) (2 ^ k) ≡ 2 ^ (k - ones (m / 2)) → ones (m / 2) ≤ k
         → how_many (λ c. matches (m / 2) (v / 2) c && eqb (min 0 a) (min b a)) (2 ^ k)

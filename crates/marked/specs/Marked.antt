@@ -1,8 +1,8 @@
 -- Document 01, "Marked examples": P1 to P12 and sheet S, with "Misreadings to shut out" and rows of states that no start gives,
 -- as one computed statement.
-use Rattle.std.specs.Prelude.{ℕ, ◌+◌, ◌*◌, ◌/◌, ◌%◌, ◌^◌, ◌≡◌, refl, Bool, true, false, ◌&&◌, not, List, [], ◌∷◌, ◌++◌, replicate, take, drop, eqb}
+use Rattle.std.specs.Prelude.{ℕ, ◌≡◌, refl, Bool, true, false, ◌&&◌, not, List, [], ◌∷◌, ◌++◌, replicate, take, drop, eqb}
 use Rattle.std.specs.Int.Count.{ones, ones_in}
-use Rattle.memory.specs.Reading.{◌>>=◌, read_as, each, Outcome, given, refused, run_from, run}
+use Rattle.memory.specs.Reading.{◌>>=◌, read_as, each, run_from}
 use Rattle.memory.specs.Address.{to, pointer, next_word, ahead, words}
 use Rattle.settings.specs.declared.Edition.{Edition}
 use Rattle.settings.specs.declared.Edition.TheVariants.{Am8052, Z8052}
@@ -12,16 +12,15 @@ use Rattle.settings.specs.declared.Settings.{Settings}
 use Rattle.settings.specs.declared.Timing.{Timing}
 use Rattle.settings.specs.declared.SheetAnswer.{SheetAnswer}
 use Rattle.settings.specs.declared.SheetAnswer.TheVariants as Sheet
-use Rattle.settings.specs.Good.{in_range, in_order, fits_fields, fits_mode, good, check_settings}
+use Rattle.settings.specs.Good.{good, check_settings}
 use Rattle.settings.specs.Sheet.{sheet_of, sheet_call}
 use Rattle.settings.specs.AfterEnable.{field_at, parts_of}
-use Rattle.settings.specs.Timing.{clocks, half_lines, timing, lines_in, lines_for_rows, halved, invoking_codes}
+use Rattle.settings.specs.Timing.{clocks, timing, lines_for_rows, halved, invoking_codes}
 use Rattle.windows.specs.declared.WindowInHand.{WindowInHand}
 use Rattle.windows.specs.declared.WindowInHand.TheVariants.{Absent, Present}
 use Rattle.blocks.specs.Main.{main_block, main_block_at}
 use Rattle.blocks.specs.RowBlock.{segment_of, segments_at, segment_roles, rest_of_block, block_at, row_block_at, window_row_at, format_of, redefined}
 use Rattle.windows.specs.Window as W
-use Rattle.state.specs.declared.Fields.{Fields}
 use Rattle.state.specs.declared.State.{State}
 use Rattle.start.specs.declared.StartAnswer.{StartAnswer}
 use Rattle.start.specs.declared.StartAnswer.TheVariants as Start
