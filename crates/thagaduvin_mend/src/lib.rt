@@ -14,8 +14,7 @@ use settings::Settings;
 
 // One step of mending: a frame is drawn from a latch, and where it is refused one pointer is set to 0, in `memory` or in `settings`; the
 // change in `answer`.
-#[unsafe(no_mangle)]
-pub extern "C" fn thagaduvin_mend(
+pub fn thagaduvin_mend(
     settings: &mut [u32],
     memory: &mut [u16],
     latch: u16,
