@@ -1,56 +1,75 @@
 #![tactic(auto)]
 // The mending program: a draw program's script on standard input, and on standard output a line for each pointer that was changed, then the
 // text of the mended list.
-use libc::STDOUT_FILENO;
+ghost use Rattle.std.specs.Prelude.{IfOk, OnOk};
+ghost use Rattle.std.specs.Io.KnownBytes.{Appends};
+ghost use Rattle.script.specs.Feeding.{stepped, outcome};
+ghost use Rattle.script_input.specs.Reader.{Prints};
+ghost use Rattle.text.specs.Text.{outcome_text};
+ghost use Rattle.mend_text.specs.MendText.{output};
+ghost use Rattle.mend.specs.Mended.{Mends};
+
 use mend_text::ChangeLines;
 use script::Step;
 use settings::Settings;
+use std::io;
+use std::io::{Read, Write};
 use text::Lines;
 
-// Memory is 16,384 words.
-fn main() {
+fn main(rt: HostRuntime) -> io::Result<()> {
+    mend_script(&mut rt.stdin(), &mut rt.stdout())
+}
+
+// A script's bytes, and the text of them. Memory is 16,384 words.
+fn mend_script<R: Read, W: Write>(input: &mut R, to: &mut W) -> io::Result<()>
+    ensures { OnOk result (Prints output (R.remaining input.old) (R.remaining input.new) (W.contents to.old) (W.contents to.new)) }
+{
     let mut mem = [0u16; 16384];
-    match script_input::read_script(&mut mem) {
+    match script_input::read_script(input, &mut mem) {
         Step::Draw(settings) => {
-            let mended = mend(settings, &mut mem);
-            print(Step::Draw(mended), &mem)
+            let mended = mend(to, settings, &mut mem)?;
+            print(to, Step::Draw(mended), &mem)
         }
-        Step::Refused(offset) => print(Step::Refused(offset), &mem),
-        Step::More(s) => print(Step::More(s), &mem),
+        Step::Refused(offset) => print(to, Step::Refused(offset), &mem),
+        Step::More(s) => print(to, Step::More(s), &mem),
     }
 }
 
-// The changes of a list, each with its line; the settings after them.
-fn mend(settings: Settings, mem: &mut [u16; 16384]) -> Settings {
+// The changes of a list, each with its line; the settings after them. A write that fails ends them.
+fn mend<W: Write>(to: &mut W, settings: Settings, mem: &mut [u16; 16384]) -> io::Result<Settings>
+    ensures { IfOk result (λ after. Mends (W.contents to.old) (W.contents to.new) settings mem.old after mem.new) }
+{
     let mut now = settings;
     let mut out = [0u8; 2048];
     loop {
         match mend_text::next_change(now, mem, &mut out) {
             ChangeLines::Ended => {
-                return now;
+                return Ok(now);
             }
             ChangeLines::Written {
                 count,
                 settings: after,
             } => {
-                io::write_all(STDOUT_FILENO, &out[..count]);
+                to.write_all(&out[..count])?;
                 now = after;
             }
         }
     }
 }
 
-// The script's text, as its lines come.
-fn print(script: Step, mem: &[u16; 16384]) {
+// The script's text, as its lines come; a write that fails ends it.
+fn print<W: Write>(to: &mut W, script: Step, mem: &[u16; 16384]) -> io::Result<()>
+    ensures { OnOk result (Appends (W.contents to.old) (W.contents to.new) (outcome_text (outcome (stepped script mem.now)))) }
+{
     let mut text = text::begin(script, mem);
     let mut out = [0u8; 2048];
     loop {
         match text::next(text, mem, &mut out) {
             Lines::AtEnd => {
-                return;
+                return Ok(());
             }
             Lines::Written { count, text: after } => {
-                io::write_all(STDOUT_FILENO, &out[..count]);
+                to.write_all(&out[..count])?;
                 text = after;
             }
         }
