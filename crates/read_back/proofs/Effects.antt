@@ -9,7 +9,7 @@ use lib.Dec.{eqb, leb, lit≤}
 use borrow.Author.Tests.{leb-true, eqb-true}
 use Rattle.memory.specs.Word.{when◌then◌else◌, at}
 use Rattle.memory.specs.declared.Fault.{Fault}
-use Rattle.memory.specs.Reading.{Outcome, given, refused, refusal, from_told, run}
+use Rattle.memory.specs.Reading.{Outcome, given, refused, refusal}
 use Rattle.memory.proofs.ReadBounds.{Words, both, if-cases}
 use Rattle.settings.specs.declared.Settings.{Settings}
 use Rattle.state.specs.declared.Fields.{Fields}
@@ -19,7 +19,7 @@ use Rattle.codes.specs.Attribute.{ignores}
 use Rattle.joining.specs.declared.Part.{Part}
 use Rattle.joining.specs.declared.Part.TheVariants.{Keep, Set, Refuse}
 use Rattle.joining.specs.declared.Effect.{Effect}
-use Rattle.joining.specs.Join.{empty, part_for, set_then, join_part, join}
+use Rattle.joining.specs.Join.{part_for, set_then, join_part, join}
 use Rattle.effect.specs.Effect.{part_of, latch_with, outcome_for, effect_call}
 use Rattle.numbers.specs.Places.{any}
 use Rattle.effects.specs.EffectNumbers.{effect_limits, of_effect}
@@ -27,7 +27,7 @@ use Rattle.effects.proofs.EffectAgain.{PartFits}
 use Rattle.refusals.specs.Refusals.{has, within, of_part}
 use Rattle.refusals.specs.Refusals as Refusals
 use Rattle.refusals.proofs.Told.{effect-told}
-use Rattle.blame.proofs.Comes.{comes-given, comes-refused}
+use Rattle.blame.proofs.Comes.{comes-refused}
 use Rattle.read_back.proofs.Small.{SmallFault}
 use Rattle.read_back.proofs.Rows.{FieldsFit, row_keeps}
 use Rattle.read_back.proofs.States.{row_fits, from-latch}

@@ -3,10 +3,9 @@
 use mathlib.Core.Path.{◌≡◌, refl}
 use mathlib.Core.Bool.{Bool, true, false, not, ◌&&◌}
 use mathlib.Core.List.{List}
-use Prim.Native.Nat.{ℕ, ◌+◌, ◌-◌, ◌/◌, ◌<◌, ◌≤◌}
+use Prim.Native.Nat.{ℕ, ◌+◌, ◌-◌, ◌<◌, ◌≤◌}
 use native.Mathlib.Omega.{arith}
 use lib.Dec.{ltb, leb, lit≤}
-use Rattle.memory.specs.declared.Pointer.{Pointer}
 use Rattle.memory.specs.Reading.{nobody, check}
 use Rattle.memory.specs.Address.{null}
 use Rattle.memory.proofs.ReadBounds.{Words}
@@ -33,11 +32,10 @@ use Rattle.start.specs.Top.{registered, enabled, of_window, top_block}
 use Rattle.start.specs.Start.{first_fields, window_start, start_from}
 use Rattle.row.specs.Row.{code_settings, Row, row}
 use Rattle.numbers.specs.Places.{any}
-use Rattle.numbers.proofs.Again.{WindowHeld}
 use Rattle.holding.proofs.Holds.{Each}
 use Rattle.blame.proofs.Comes.{dones, refuses, bind, check-then, if-comes}
 use Rattle.read_back.proofs.Small.{Small, SmallFault, pointer-small, Keeps}
-use Rattle.read_back.proofs.Blocks.{Pointed, Linked, FormatFits, MainFits, WindowFits, HandFits, block-keeps, redefined-keeps, main-keeps, window-keeps, due-keeps}
+use Rattle.read_back.proofs.Blocks.{Pointed, Linked, FormatFits, MainFits, HandFits, block-keeps, redefined-keeps, main-keeps, window-keeps, due-keeps}
 use Rattle.read_back.proofs.Cells.{cells-keep}
 use Rattle.holding.proofs.CellsHold.{EachOver}
 

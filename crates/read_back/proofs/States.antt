@@ -1,6 +1,6 @@
 -- A state that is read from numbers fits its fields; so do those that starts, rows and effects of rows then give, and such a state is read
 -- back as it was.
-use mathlib.Core.Path.{◌≡◌, refl, sym, subst}
+use mathlib.Core.Path.{◌≡◌, refl, subst}
 use mathlib.Core.Bool.{Bool, true, false}
 use mathlib.Core.List.{List}
 use Prim.Native.Nat.{ℕ, ◌≤◌, ◌<◌}
