@@ -8,7 +8,6 @@ use Rattle.frame.specs.Frame.{frame}
 use Rattle.lines.specs.Lines.{Line}
 use Rattle.text.specs.Text.{frame_text}
 use Rattle.blame.specs.declared.Verdict.{Verdict}
-use Rattle.blame.specs.declared.Verdict.TheVariants as Verdict
 use Rattle.blame.specs.Blame.{verdict}
 use Rattle.mending.specs.declared.Change.{Change}
 use Rattle.mending.specs.declared.MendAnswer.{MendAnswer}
