@@ -6,7 +6,6 @@ use Rattle.lines.specs.Lines.{refusal_line, script_line}
 use Rattle.text.specs.declared.Text.{Text}
 use Rattle.text.specs.declared.Text.TheVariants.{Rows, Refused, NoScript, Ended}
 use Rattle.text.specs.declared.Lines.{Lines}
-use Rattle.text.specs.declared.Lines.TheVariants as Lines
 use Rattle.text.specs.ToCome.{calls}
 use Rattle.mail_text.specs.MailText.{frame_text}
 

@@ -1,0 +1,14 @@
+-- What `write_mail` wrote is the row's text; it refuses nothing, since settings are good, cells are 132 and any row's text fits.
+use native.Mathlib.Omega.{arith}
+use Rattle.mail_text.proofs.RowLaws.{never-refused, row_line}
+use borrow.Author.Rules.{rules}
+use Rattle.mail_text.proofs.row_text.Goals as goal
+
+pub returns-in-Text : goal.returns-in-Text
+returns-in-Text c =
+    row_line c.args.settings _ _ c.requires (search rules) (omega arith) (rw c.in-Text.is at c.write_mail.ensures.text_after)
+
+pub returns-in-Refused : goal.returns-in-Refused
+returns-in-Refused c =
+    absurd
+    (never-refused c.args.settings _ _ c.requires (search rules) (omega arith) (rw c.in-Refused.is at c.write_mail.ensures.text_after))
