@@ -1,6 +1,6 @@
 -- The lines of the glide program's output, as bytes: a frame's line, and the lines of a stretch, a run of lines on which one row glides,
 -- or none, and one row stands still. Numbers and cells are spelled as the draw program spells them. The lines are ours.
-use Rattle.std.specs.Prelude.{ℕ, ◌/◌, ◌%◌, ◌^◌, Bool, ◌&&◌, List, [], ◌∷◌, ◌++◌, map, ℤ, nat_abs, leb, eqb}
+use Rattle.std.specs.Prelude.{ℕ, ◌%◌, Bool, ◌&&◌, List, [], ◌++◌, map, ℤ, nat_abs, leb, eqb}
 use Rattle.memory.specs.Word.{when◌then◌else◌, bit}
 use Rattle.settings.specs.declared.PointerWords.{PointerWords}
 use Rattle.scroll.specs.declared.Scroll.{Scroll}
