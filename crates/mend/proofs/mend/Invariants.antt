@@ -2,7 +2,8 @@
 -- not 0.
 use Rattle.std.proofs.Common.{◌≡◌, List, ℕ, ◌++◌}
 use Rattle.std.specs.Io.KnownBytes.{Appends}
-use Rattle.mend_text.specs.NextChange.{to_mend, count}
+use Rattle.mend_text.specs.NextChange.{to_mend}
+use Rattle.mending.specs.Mending.{count}
 use Rattle.mend.proofs.mend.Given as goal
 
 abbrev pub invariant-loop-count : goal.invariant-loop-count
