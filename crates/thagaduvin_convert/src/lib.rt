@@ -1,0 +1,80 @@
+#![tactic(auto)]
+// A console's call that converts a segmented list (libthagaduvin_convert.a), over slices and with statuses as thagaduvin's. It stands apart
+// from libthagaduvin.a so that its rows keep their time: it has the code of a row in it once more.
+ghost use Rattle.std.specs.Prelude.{◌≡◌, length};
+ghost use Rattle.answers.specs.Changing.{left};
+ghost use Rattle.converter.specs.Converter.{convert_call};
+ghost use Rattle.thagaduvin_convert.specs.ConvertCalls.{settings_after, refusal_numbers, after_call, host_convert};
+
+use converter::ConvertAnswer;
+use memory::Refusal;
+use numbers::decode::SettingsIn;
+use numbers::{decode, encode};
+use settings::Settings;
+
+// The pointers that a frame from a latch reads turned into linear form, in `memory` and in `settings`, which are then linear; how many
+// have changed in `answer`. `marks` are free.
+#[unsafe(no_mangle)]
+pub extern "C" fn thagaduvin_convert(
+    settings: &mut [u32],
+    memory: &mut [u16],
+    marks: &mut [u8],
+    latch: u16,
+    answer: &mut [u32],
+) -> u8
+    ensures { left result settings.new memory.new answer.new ≡ host_convert settings.old memory.old (length marks.old) latch answer.old }
+{
+    if answer.len() != 4 {
+        return 255;
+    }
+    match decode::settings_in(settings) {
+        SettingsIn::Fit(s) => convert_into(s, settings, memory, marks, latch, answer),
+        SettingsIn::Unfit => 255,
+    }
+}
+
+// A conversion from settings, and what it leaves in their numbers.
+fn convert_into(
+    s: Settings,
+    settings: &mut [u32],
+    memory: &mut [u16],
+    marks: &mut [u8],
+    latch: u16,
+    answer: &mut [u32],
+) -> u8
+    requires { (length settings.old ≡ 18) × (length answer.old ≡ 4) }
+    ensures { left result settings.new memory.new answer.new ≡ after_call settings.old (convert_call latch s memory.old (length marks.old)) }
+{
+    match conversion::convert(s, memory, marks, latch) {
+        ConvertAnswer::Accepted(c) => {
+            let turned = c.settings;
+            write_settings(turned, settings);
+            answers::encode::write_number(c.pointers as u32, answer);
+            0
+        }
+        ConvertAnswer::Refused(r) => {
+            write_refusal(r, answer);
+            r.number
+        }
+    }
+}
+
+// Settings that were turned, in their numbers.
+fn write_settings(turned: Settings, settings: &mut [u32])
+    requires { length settings.old ≡ 18 }
+    ensures { settings.new ≡ settings_after turned settings.old }
+{
+    let top = turned.top;
+    let tow = turned.tow;
+    settings[0] = 1;
+    settings[5] = top.first as u32;
+    settings[7] = tow.first as u32;
+}
+
+fn write_refusal(r: Refusal, answer: &mut [u32])
+    requires { length answer.old ≡ 4 }
+    ensures { answer.new ≡ refusal_numbers r }
+{
+    let numbers = [r.row, r.address, r.from, 0];
+    encode::write(&numbers, answer);
+}
