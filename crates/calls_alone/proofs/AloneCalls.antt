@@ -3,12 +3,12 @@
 use mathlib.Core.Path.{◌≡◌, refl, ap, ap₂, sym, subst, ◌∙◌}
 use mathlib.Core.Bool.{Bool, true, false, ◌&&◌, not}
 use mathlib.Core.List.{List, [], ◌∷◌}
-use Prim.Native.Nat.{ℕ, ◌<◌, ◌≤◌}
+use Prim.Native.Nat.{ℕ, ◌<◌}
 use native.Mathlib.Omega.{arith}
 use lib.ListN.{length}
 use lib.Seq.{set-set}
 use lib.Dec.{eqb}
-use borrow.Author.Tests.{eq-eqb, eqb-true}
+use borrow.Author.Tests.{eqb-true}
 use Rattle.memory.specs.Word.{when◌then◌else◌, at}
 use Rattle.memory.specs.declared.Refusal.{Refusal}
 use Rattle.memory.specs.Reading.{Outcome, given, refused, refusal, fault, run}
@@ -35,12 +35,10 @@ use Rattle.listed_alone.specs.DemandListed as Listed
 use Rattle.listed_alone.proofs.AloneListed.{right, head}
 use Rattle.numbers.specs.declared.decode.SettingsIn.TheVariants as Settings-in
 use Rattle.numbers.specs.declared.decode.StateIn.TheVariants as State-in
-use Rattle.numbers.specs.Decode.{settings_at, settings_in, fields_at, is_state, state_in}
-use Rattle.numbers.specs.Encode.{state_numbers}
-use Rattle.answers.specs.AnswerNumbers.{row_numbers, with_refusal}
-use Rattle.listed_answers.specs.AfterListed.{DrawnListed, drawn_listed, after_row_listed}
-use Rattle.effects.specs.declared.decode.EffectIn.TheVariants as Effect-in
-use Rattle.effects.specs.EffectNumbers.{effect_in, effect_numbers}
+use Rattle.numbers.specs.Decode.{settings_at, settings_in, fields_at, state_in}
+use Rattle.answers.specs.AnswerNumbers.{row_numbers}
+use Rattle.listed_answers.specs.AfterListed.{drawn_listed, after_row_listed}
+use Rattle.effects.specs.EffectNumbers.{effect_numbers}
 use Rattle.effects.specs.AfterEffect.{stepped, after_effect, after_apply}
 use Rattle.effects.proofs.EffectAgain.{effect-again}
 use Rattle.thagaduvin.specs.Calls.{host_row}
@@ -48,12 +46,12 @@ use Rattle.thagaduvin_effect.specs.EffectCalls.{host_effect, host_join, host_app
 use Rattle.told.proofs.Tells.{not-true}
 use Rattle.refusals.specs.Refusals.{row_listed_numbers, of_row, has, within}
 use Rattle.refusals.proofs.ToldListed.{row-listed-told}
-use Rattle.read_back.specs.ReadBack.{Words, Numbers}
+use Rattle.read_back.specs.ReadBack.{Words}
 use Rattle.read_back.proofs.Rows.{FieldsFit, StateFits}
 use Rattle.read_back.proofs.States.{read_fits, state-back, next_fits, NextFits, fields-reached}
 use Rattle.read_back.proofs.Effects.{EffectFits, effect-fits, join-fits, passes}
-use Rattle.calls_alone.specs.DemandCalls.{Call, is_row, with_latch, no_effect, Given, given_by, refused_by, on_slices, in_turn, row_alone, drawn_alone, Demand3Calls}
-use Rattle.calls_alone.proofs.Slices.{first-latch, read-state, another-latch, written-latch, same-refusal}
+use Rattle.calls_alone.specs.DemandCalls.{Call, is_row, with_latch, given_by, on_slices, in_turn, row_alone, drawn_alone, Demand3Calls}
+use Rattle.calls_alone.proofs.Slices.{read-state, another-latch, written-latch, same-refusal}
 
 -- the row call that a call stands for
 abbrev listed : Call → Listed.Call

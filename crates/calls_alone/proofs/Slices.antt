@@ -1,21 +1,20 @@
 -- A state's numbers with another latch are those of the state with that latch; a refusal is the first three numbers of any answer.
-use mathlib.Core.Path.{◌≡◌, refl, sym, ap, ◌∙◌}
-use mathlib.Core.Bool.{Bool, true, false, ◌&&◌}
+use mathlib.Core.Path.{◌≡◌, refl, ap, ◌∙◌}
+use mathlib.Core.Bool.{Bool, true, ◌&&◌}
 use mathlib.Core.List.{List, [], ◌∷◌, ◌++◌}
 use Prim.Native.Nat.{ℕ, ◌%◌, ◌<◌, ◌≤◌}
 use native.Mathlib.Nat.{mod-eq_of_lt}
 use native.Mathlib.Omega.{arith}
 use lib.ListN.{length, take, drop}
 use lib.Dec.{eqb, leb}
-use borrow.Author.Tests.{le-leb, leb-true, eq-eqb}
-use Rattle.memory.specs.Word.{when◌then◌else◌, at}
+use borrow.Author.Tests.{le-leb, leb-true}
+use Rattle.memory.specs.Word.{at}
 use Rattle.memory.specs.declared.Refusal.{Refusal}
 use Rattle.memory.proofs.ReadBounds.{both}
 use Rattle.state.specs.declared.Fields.{Fields}
-use Rattle.state.specs.declared.State.{State}
 use Rattle.state.specs.State.{state_of}
-use Rattle.numbers.specs.declared.decode.StateIn.TheVariants.{Fit, Unfit}
-use Rattle.numbers.specs.Decode.{state_fits, lines_at, format_at, window_at, fields_at, state_at, is_state, state_in}
+use Rattle.numbers.specs.declared.decode.StateIn.TheVariants.{Fit}
+use Rattle.numbers.specs.Decode.{state_fits, lines_at, format_at, window_at, fields_at, is_state, state_in}
 use Rattle.numbers.specs.Encode.{state_numbers}
 use Rattle.answers.specs.AnswerNumbers.{with_refusal}
 use Rattle.calls_alone.specs.DemandCalls.{with_latch}
