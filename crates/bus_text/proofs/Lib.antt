@@ -1,3 +1,0 @@
-pub mod ReportLaws
-pub mod FrameBus
-pub mod Calls

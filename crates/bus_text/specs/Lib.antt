@@ -1,3 +1,0 @@
-pub mod BusLines
-pub mod FrameReport
-pub mod ToCome

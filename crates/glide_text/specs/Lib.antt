@@ -1,4 +1,0 @@
-pub mod FrameText
-pub mod GlideText
-pub mod Example
-pub mod ToCome
