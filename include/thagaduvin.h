@@ -25,8 +25,8 @@
  *
  * The host. The library, libthagaduvin.a, is for x86-64 and Linux, and position independent. It has no data, takes no
  * memory but what is lent and its stack, and needs memcpy and memset alone. Any thread may call, several at once, as long
- * as no other one writes what is lent, or reads what the call writes, until the call is done. `rt staticlib` makes it in
- * five parts, named below where their calls begin; `./build library` puts them together.
+ * as no other one writes what is lent, or reads what the call writes, until the call is done. `./build staticlib` makes it
+ * in five parts, named below where their calls begin; `./build library` puts them together.
  *
  * Stack of a call, at most, as measured: half a kilobyte for sheet, start, latch, line, shown, bus, read_mail, write_word,
  * join and apply; one for shift; two for write_mail and mend; three for row, effect, beside and convert. (Where memcpy and memset

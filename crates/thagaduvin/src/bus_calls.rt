@@ -6,8 +6,7 @@ ghost use Rattle.thagaduvin.specs.BusCalls.{host_bus};
 use bus::BusRow;
 
 // A row handed in: its figures in `answer`, and the running totals in `totals`, brought up to date. A refusal writes nothing.
-#[unsafe(no_mangle)]
-pub extern "C" fn thagaduvin_bus(
+pub fn thagaduvin_bus(
     burst: u16,
     words: u32,
     screen: u32,

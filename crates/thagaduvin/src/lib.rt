@@ -8,16 +8,18 @@ ghost use Rattle.listed_answers.specs.AfterListed.{stated_listed, drawn_listed};
 ghost use Rattle.thagaduvin.specs.Calls.{host_sheet, host_start, host_row, host_latch};
 
 use answers::encode;
+pub use bus_calls::thagaduvin_bus;
+pub use mail_calls::{thagaduvin_read_mail, thagaduvin_write_mail};
 use numbers::decode;
 use numbers::decode::{SettingsIn, StateIn};
+pub use writer_calls::thagaduvin_write_word;
 
 mod bus_calls; // the call of the bus report
 mod mail_calls; // the calls of a row's text
 mod writer_calls; // the writer call of two desks
 
 // The settings sheet, in `answer`.
-#[unsafe(no_mangle)]
-pub extern "C" fn thagaduvin_sheet(settings: &[u32], answer: &mut [u32]) -> u8
+pub fn thagaduvin_sheet(settings: &[u32], answer: &mut [u32]) -> u8
     ensures { answered result answer.new ≡ host_sheet settings.now answer.old }
 {
     if answer.len() != 21 {
@@ -30,8 +32,7 @@ pub extern "C" fn thagaduvin_sheet(settings: &[u32], answer: &mut [u32]) -> u8
 }
 
 // A frame's first state from a latch, in `state`, the words read, and their addresses in `list`.
-#[unsafe(no_mangle)]
-pub extern "C" fn thagaduvin_start(
+pub fn thagaduvin_start(
     settings: &[u32],
     memory: &[u16],
     latch: u16,
@@ -54,8 +55,7 @@ pub extern "C" fn thagaduvin_start(
 }
 
 // The next row: its cells in `cells`, the next state in `state`, the addresses of the words read in `list`.
-#[unsafe(no_mangle)]
-pub extern "C" fn thagaduvin_row(
+pub fn thagaduvin_row(
     settings: &[u32],
     memory: &[u16],
     state: &mut [u32],
@@ -78,8 +78,7 @@ pub extern "C" fn thagaduvin_row(
 }
 
 // The latch that a frame hands on, in `answer`, from the latch that it was started with and the state that it ended with.
-#[unsafe(no_mangle)]
-pub extern "C" fn thagaduvin_latch(latch: u16, state: &[u32], answer: &mut [u32]) -> u8
+pub fn thagaduvin_latch(latch: u16, state: &[u32], answer: &mut [u32]) -> u8
     ensures { answered result answer.new ≡ host_latch latch state.now answer.old }
 {
     if answer.len() != 4 {

@@ -7,8 +7,7 @@ use numbers::decode;
 use numbers::decode::SettingsIn;
 
 // The text of a row's cells, in `text`, and its length, in `answer`.
-#[unsafe(no_mangle)]
-pub extern "C" fn thagaduvin_write_mail(
+pub fn thagaduvin_write_mail(
     settings: &[u32],
     cells: &[u32],
     text: &mut [u8],
@@ -26,8 +25,7 @@ pub extern "C" fn thagaduvin_write_mail(
 }
 
 // The cells of a row's text, in `cells`, and their count, in `answer`; or the offset at which the text is none.
-#[unsafe(no_mangle)]
-pub extern "C" fn thagaduvin_read_mail(text: &[u8], cells: &mut [u16], answer: &mut [u32]) -> u8
+pub fn thagaduvin_read_mail(text: &[u8], cells: &mut [u16], answer: &mut [u32]) -> u8
     ensures { lent result cells.new answer.new ≡ host_read_mail text.now cells.old answer.old }
 {
     if answer.len() != 1 {

@@ -5,8 +5,7 @@ ghost use Rattle.thagaduvin.specs.WriterCalls.{word_written, host_write_word};
 use writer::{Span, WriteAnswer};
 
 // Writes one word at an address of the writer's own span; the other desk's span is told too.
-#[unsafe(no_mangle)]
-pub extern "C" fn thagaduvin_write_word(
+pub fn thagaduvin_write_word(
     memory: &mut [u16],
     own_first: u32,
     own_last: u32,

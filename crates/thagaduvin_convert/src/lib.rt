@@ -14,8 +14,7 @@ use settings::Settings;
 
 // The pointers that a frame from a latch reads turned into linear form, in `memory` and in `settings`, which are then linear; how many
 // have changed in `answer`. `marks` are free.
-#[unsafe(no_mangle)]
-pub extern "C" fn thagaduvin_convert(
+pub fn thagaduvin_convert(
     settings: &mut [u32],
     memory: &mut [u16],
     marks: &mut [u8],

@@ -11,8 +11,7 @@ use numbers::decode;
 use numbers::decode::{SettingsIn, StateIn};
 
 // The effect of the next row, in `effect`; the next state's fields but the latch, in `state`.
-#[unsafe(no_mangle)]
-pub extern "C" fn thagaduvin_effect(
+pub fn thagaduvin_effect(
     settings: &[u32],
     memory: &[u16],
     state: &mut [u32],
@@ -33,8 +32,7 @@ pub extern "C" fn thagaduvin_effect(
 }
 
 // The effect `first`, and then `second`, in `joined`.
-#[unsafe(no_mangle)]
-pub extern "C" fn thagaduvin_join(first: &[u32], second: &[u32], joined: &mut [u32]) -> u8
+pub fn thagaduvin_join(first: &[u32], second: &[u32], joined: &mut [u32]) -> u8
     ensures { answered result joined.new ≡ host_join first.now second.now joined.old }
 {
     if joined.len() != 12 {
@@ -53,8 +51,7 @@ pub extern "C" fn thagaduvin_join(first: &[u32], second: &[u32], joined: &mut [u
 }
 
 // The latch that an effect makes of `latch`, in `answer`.
-#[unsafe(no_mangle)]
-pub extern "C" fn thagaduvin_apply(effect: &[u32], latch: u16, answer: &mut [u32]) -> u8
+pub fn thagaduvin_apply(effect: &[u32], latch: u16, answer: &mut [u32]) -> u8
     ensures { answered result answer.new ≡ host_apply effect.now latch answer.old }
 {
     if answer.len() != 4 {

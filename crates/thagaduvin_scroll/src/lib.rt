@@ -14,8 +14,7 @@ use panel::Columns;
 use settings::PointerWords;
 
 // The shift of the next frame, in `scroll`, from the last one there; the hard top, in `answer`. `first` and `second` are the soft top.
-#[unsafe(no_mangle)]
-pub extern "C" fn thagaduvin_shift(
+pub fn thagaduvin_shift(
     settings: &[u32],
     memory: &[u16],
     first: u16,
@@ -39,8 +38,7 @@ pub extern "C" fn thagaduvin_shift(
 }
 
 // The row beside the cut of a frame with a shift, its cells in `cells`, the addresses of the words read in `list`; nothing of it goes on into the frame.
-#[unsafe(no_mangle)]
-pub extern "C" fn thagaduvin_beside(
+pub fn thagaduvin_beside(
     settings: &[u32],
     memory: &[u16],
     shift: i32,
@@ -68,8 +66,7 @@ pub extern "C" fn thagaduvin_beside(
 
 // What line y of the screen shows of a frame with a shift, seven numbers in `answer`: what glides there, what stands still, and how many
 // lines from it on have these two. `heights` are those of the frame's rows, `rows` of them, and then of the rows below.
-#[unsafe(no_mangle)]
-pub extern "C" fn thagaduvin_line(
+pub fn thagaduvin_line(
     shift: i32,
     above: u32,
     heights: &[u32],
@@ -92,8 +89,7 @@ pub extern "C" fn thagaduvin_line(
 
 // The cells of such a line, in `cells`, from the row that stands still and the row that glides, each with the columns of the window on
 // it, and what is behind the latter's window.
-#[unsafe(no_mangle)]
-pub extern "C" fn thagaduvin_shown(
+pub fn thagaduvin_shown(
     still: &[u32],
     still_first: u32,
     still_last: u32,

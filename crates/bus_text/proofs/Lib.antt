@@ -1,0 +1,3 @@
+pub mod ReportLaws
+pub mod FrameBus
+pub mod Calls

@@ -1,0 +1,3 @@
+pub mod BusLines
+pub mod FrameReport
+pub mod ToCome

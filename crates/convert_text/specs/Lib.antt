@@ -1,0 +1,3 @@
+pub mod Registers
+pub mod ConvertText
+pub mod ToCome

@@ -1,0 +1,4 @@
+pub mod FrameText
+pub mod GlideText
+pub mod Example
+pub mod ToCome

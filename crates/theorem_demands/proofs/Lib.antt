@@ -1,0 +1,10 @@
+pub mod Ways
+pub mod Missed
+pub mod Rows
+pub mod Reading
+pub mod Changing
+pub mod Plain
+pub mod Joins
+pub mod Sources
+pub mod Drawn
+pub mod Theorem
