@@ -1,5 +1,6 @@
--- A program that reads a script and writes what is made of it has printed the text of the bytes that it read.
-use Rattle.std.proofs.Common.{◌≡◌, ◌∙◌, subst, List, ℕ, Result, Ok, Err, OnOk, replicate}
+-- A program that reads a script and writes what is made of it, line after line, has printed the text of the bytes that it read.
+use Rattle.std.proofs.Common.{◌≡◌, ◌∙◌, subst, List, ◌++◌, append_assoc, ℕ, Result, Ok, Err, OnOk, replicate}
+use Rattle.std.proofs.KnownBytes.{Appends-trans}
 use Rattle.std.specs.declared.option.Option.{Option}
 use Rattle.std.specs.Io.KnownBytes.{Appends}
 use Rattle.script.specs.declared.Step.{Step}
@@ -8,6 +9,16 @@ use Rattle.script.specs.Feeding.{beginning, stepped, outcome}
 use Rattle.image.specs.Registers.{registers_of}
 use Rattle.script_input.specs.Reader.{Taken, Prints}
 use Rattle.script_input.proofs.InputLaws.{made_of}
+
+-- what a loop that writes a text has written so far, which with what is to come is the whole
+abbrev pub SoFar : (held holds : Option (List ℕ)) (rest whole : List ℕ) → Type 0
+SoFar held holds rest whole = (written : List ℕ) × Appends held holds written × (written ++ rest ≡ whole)
+
+-- what a call writes follows what the calls before it wrote
+pub written-on : (held between holds : Option (List ℕ)) (line : List ℕ) {after rest whole : List ℕ} → SoFar held between rest whole
+    → Appends between holds line → line ++ after ≡ rest → SoFar held holds after whole
+written-on held between holds line s w e =
+    (s.0 ++ line, Appends-trans held between holds s.0 line s.1 w, rw (append_assoc, e) s.2)
 
 -- the text f of a script's registers and outcome
 module _ (f : List ℕ → Outcome → List ℕ) (refused : (rs qs : List ℕ) (n : ℕ) → f rs (refused_at n) ≡ f qs (refused_at n))
