@@ -1,4 +1,5 @@
 -- The blocks of an accepted start or row ask for the addresses of the walk.
+use Rattle.std.proofs.Common.{Option, Some, None}
 use mathlib.Core.Path.{◌≡◌, refl, ap, ap₂, sym, ◌∙◌}
 use mathlib.Core.List.{List, [], ◌∷◌, ◌++◌, append_assoc}
 use mathlib.Core.Bool.{Bool, true, false, ◌&&◌, not}
@@ -14,8 +15,6 @@ use Rattle.memory.proofs.RunLaws.{ahead-add}
 use Rattle.settings.specs.declared.Settings.{Settings}
 use Rattle.settings.specs.Good.{check_settings, good}
 use Rattle.windows.specs.declared.Window.{Window}
-use Rattle.windows.specs.declared.WindowInHand.{WindowInHand}
-use Rattle.windows.specs.declared.WindowInHand.TheVariants.{Absent, Present}
 use Rattle.windows.specs.Window.{window_of, two_pointers, in_order, window_at, first_window, due_window}
 use Rattle.blocks.specs.declared.RowFormat.{RowFormat}
 use Rattle.blocks.specs.Main.{main_block_at}
@@ -66,17 +65,17 @@ turn-append l (suc j) k a =
 
 module _ (m : List ℕ) (l : Bool) where
   -- a window block
-  pub record WindowAsked (ys : List ℕ) (rows : Pointer) (xs : List ℕ) (w : WindowInHand) : Type 0 where
+  pub record WindowAsked (ys : List ℕ) (rows : Pointer) (xs : List ℕ) (w : Option Window) : Type 0 where
     pub addresses : xs ≡ ys
-    pub block : (x : Window) → w ≡ Present x → x.rows ≡ rows
+    pub block : (x : Window) → w ≡ Some x → x.rows ≡ rows
 
-  absent : (x : Window) {A : Type 0} → Absent ≡ Present x → A
+  absent : (x : Window) {A : Type 0} → None ≡ Some x → A
   absent x e = let q : ◌≡◌ {A = ℕ} 0 1 = cc in absurd (omega arith)
 
-  present-same : (x y : Window) → Present x ≡ Present y → x ≡ y
+  present-same : (x y : Window) → Some x ≡ Some y → x ≡ y
   present-same x y e = cc
 
-  window-asked : (number least : ℕ) (p : Pointer) {xs : List ℕ} {w : WindowInHand} → Trace m (window_at l number least p) xs w
+  window-asked : (number least : ℕ) (p : Pointer) {xs : List ℕ} {w : Option Window} → Trace m (window_at l number least p) xs w
       → WindowAsked (pointed l 6 p) (pointer_in l m 2 p.address) xs w
   unfolding window_at window_of pointed
   window-asked number least p t = by (null p) t
@@ -84,28 +83,28 @@ module _ (m : List ℕ) (l : Bool) where
       w₁ : List ℕ → Window
       w₁ ws = window_of l number p.address ws
 
-      by : (b : Bool) {xs : List ℕ} {w : WindowInHand}
-          → Trace m (when b then done Absent else (read_as two_pointers (words l 6 p) >>= λ ws. check_of 8 p (in_order (w₁ ws).block && leb least (w₁ ws).block.top) >>= λ _. done (Present (w₁ ws)))) xs w
+      by : (b : Bool) {xs : List ℕ} {w : Option Window}
+          → Trace m (when b then done None else (read_as two_pointers (words l 6 p) >>= λ ws. check_of 8 p (in_order (w₁ ws).block && leb least (w₁ ws).block.top) >>= λ _. done (Some (w₁ ws)))) xs w
           → WindowAsked (when b then [] else in_turn l 6 p.address) (pointer_in l m 2 p.address) xs w
       by true dones = record { addresses = refl; block = λ x e. absent x e }
       by false t =
           let r = parts (read_as two_pointers (words l 6 p)) _ t in
           let f = words-asked m l 6 p (trace-as two_pointers (words l 6 p) r.one) in
-          let ended = trace-done (trace-check-of 8 p (in_order (w₁ r.result).block && leb least (w₁ r.result).block.top) (λ _. done (Present (w₁ r.result))) r.two).1 in
+          let ended = trace-done (trace-check-of 8 p (in_order (w₁ r.result).block && leb least (w₁ r.result).block.top) (λ _. done (Some (w₁ r.result))) r.two).1 in
           record {
             addresses = alone r.sum f.addresses ended.0;
             block = λ x e.
                 ap (λ (y : Window). y.rows) (sym (present-same (w₁ r.result) x (ended.1 ∙ e))) ∙ ap₂ (pointer l (ahead l 2 p.address)) (f.each 2 (lit< tt)) (f.each 3 (lit< tt));
           }
 
-  pub due-asked : (row : ℕ) (w₀ : WindowInHand) {xs : List ℕ} {w : WindowInHand} → Trace m (due_window l row w₀) xs w
+  pub due-asked : (row : ℕ) (w₀ : Option Window) {xs : List ℕ} {w : Option Window} → Trace m (due_window l row w₀) xs w
       → WindowAsked (pointed l 6 (due_of row w₀)) (rows_of l m row w₀) xs w
   unfolding due_window due_of rows_of pointed
-  due-asked row Absent dones = record { addresses = refl; block = λ x e. absent x e }
-  due-asked row (Present v) t = by (ltb v.block.bottom row) t
+  due-asked row None dones = record { addresses = refl; block = λ x e. absent x e }
+  due-asked row (Some v) t = by (ltb v.block.bottom row) t
     where
-      by : (b : Bool) {xs : List ℕ} {w : WindowInHand}
-          → Trace m (when b then window_at l (v.block.number + 1) (v.block.bottom + 1) v.block.link else done (Present v)) xs w
+      by : (b : Bool) {xs : List ℕ} {w : Option Window}
+          → Trace m (when b then window_at l (v.block.number + 1) (v.block.bottom + 1) v.block.link else done (Some v)) xs w
           → WindowAsked (pointed l 6 (when b then v.block.link else nothing)) (when b then pointer_in l m 2 v.block.link.address else v.rows) xs w
       by true t = window-asked _ _ v.block.link t
       by false dones = record { addresses = refl; block = λ x e. ap (λ (y : Window). y.rows) (sym (present-same v x e)) }
@@ -203,47 +202,47 @@ module _ (m : List ℕ) (l : Bool) where
       joined r.sum f.addresses (alone s.sum (g ∙ ap (pointed l 3) (f.redefinition refl)) (trace-done s.two).0)
 
 -- the window's row block, on a row with a window
-abbrev rows_for : WindowInHand → Overlay → Pointer
-rows_for (Present x) (over number first end ws) = x.rows
-rows_for (Present x) none = nothing
-rows_for Absent o = nothing
+abbrev rows_for : Option Window → Overlay → Pointer
+rows_for (Some x) (over number first end ws) = x.rows
+rows_for (Some x) none = nothing
+rows_for None o = nothing
 
 module _ (m : List ℕ) (σ : Settings) where
   window-row-asked : (x : Window) {xs : List ℕ} {o : Overlaid} → Trace m (window_row σ x) xs o
-      → xs ≡ pointed σ.linear (block_words false (head_word σ.linear m (rows_for (Present x) o.overlay))) (rows_for (Present x) o.overlay)
+      → xs ≡ pointed σ.linear (block_words false (head_word σ.linear m (rows_for (Some x) o.overlay))) (rows_for (Some x) o.overlay)
   unfolding window_row window_row_at
   window-row-asked x t =
       let l = σ.linear in
       let r = parts (block_at l false x.rows) _ t in
       let ended = trace-done (trace-check 11 (leb (total σ.hidden r.result.segments) (x.block.right + 1 - x.block.left)) _ (trace-check-of 9 x.rows (all_fit r.result.segments) _ r.two).1).1 in
       alone r.sum (block-asked m l false x.rows r.one).addresses ended.0
-      ∙ ap (λ (o : Overlaid). pointed l (block_words false (head_word l m (rows_for (Present x) o.overlay))) (rows_for (Present x) o.overlay)) ended.1
+      ∙ ap (λ (o : Overlaid). pointed l (block_words false (head_word l m (rows_for (Some x) o.overlay))) (rows_for (Some x) o.overlay)) ended.1
 
-  overlaid-asked : (row : ℕ) (w : WindowInHand) {xs : List ℕ} {o : Overlaid} → Trace m (overlaid σ row w) xs o
+  overlaid-asked : (row : ℕ) (w : Option Window) {xs : List ℕ} {o : Overlaid} → Trace m (overlaid σ row w) xs o
       → xs ≡ pointed σ.linear (block_words false (head_word σ.linear m (rows_for w o.overlay))) (rows_for w o.overlay)
   unfolding overlaid pointed
-  overlaid-asked row Absent dones = refl
-  overlaid-asked row (Present x) t = by (leb x.block.top row && leb row x.block.bottom) t
+  overlaid-asked row None dones = refl
+  overlaid-asked row (Some x) t = by (leb x.block.top row && leb row x.block.bottom) t
     where
       by : (b : Bool) {xs : List ℕ} {o : Overlaid}
-          → Trace m (when b then window_row σ x else done (record { overlay = none; window = Present x })) xs o
-          → xs ≡ pointed σ.linear (block_words false (head_word σ.linear m (rows_for (Present x) o.overlay))) (rows_for (Present x) o.overlay)
+          → Trace m (when b then window_row σ x else done (record { overlay = none; window = Some x })) xs o
+          → xs ≡ pointed σ.linear (block_words false (head_word σ.linear m (rows_for (Some x) o.overlay))) (rows_for (Some x) o.overlay)
       by true t = window-row-asked x t
       by false dones = refl
 
   -- what a window in hand has for its rows
-  rows_same : (row : ℕ) (w₀ w : WindowInHand) (o : Overlay) → ((x : Window) → w ≡ Present x → x.rows ≡ rows_of σ.linear m row w₀)
-      → (w ≡ Absent → o ≡ none) → rows_for w o ≡ over_rows σ.linear m row w₀ o
+  rows_same : (row : ℕ) (w₀ w : Option Window) (o : Overlay) → ((x : Window) → w ≡ Some x → x.rows ≡ rows_of σ.linear m row w₀)
+      → (w ≡ None → o ≡ none) → rows_for w o ≡ over_rows σ.linear m row w₀ o
   unfolding over_rows
-  rows_same row w₀ Absent none h k = refl
-  rows_same row w₀ Absent (over number first end ws) h k = let e = k refl in let q : ◌≡◌ {A = ℕ} 0 1 = cc in absurd (omega arith)
-  rows_same row w₀ (Present x) none h k = refl
-  rows_same row w₀ (Present x) (over number first end ws) h k = h x refl
+  rows_same row w₀ None none h k = refl
+  rows_same row w₀ None (over number first end ws) h k = let e = k refl in let q : ◌≡◌ {A = ℕ} 0 1 = cc in absurd (omega arith)
+  rows_same row w₀ (Some x) none h k = refl
+  rows_same row w₀ (Some x) (over number first end ws) h k = h x refl
 
-  absent_none : (row : ℕ) (w : WindowInHand) {xs : List ℕ} {o : Overlaid} → Trace m (overlaid σ row w) xs o → w ≡ Absent → o.overlay ≡ none
+  absent_none : (row : ℕ) (w : Option Window) {xs : List ℕ} {o : Overlaid} → Trace m (overlaid σ row w) xs o → w ≡ None → o.overlay ≡ none
   unfolding overlaid
-  absent_none row Absent t e = ap (λ (o : Overlaid). o.overlay) (sym (trace-done t).1)
-  absent_none row (Present x) t e = let q : ◌≡◌ {A = ℕ} 0 1 = cc in absurd (omega arith)
+  absent_none row None t e = ap (λ (o : Overlaid). o.overlay) (sym (trace-done t).1)
+  absent_none row (Some x) t e = let q : ◌≡◌ {A = ℕ} 0 1 = cc in absurd (omega arith)
 
   -- the checks on settings ask for no word
   settings-traced : {A : Type 0} (k : Unit {0} → Reading A) {xs : List ℕ} {a : A} → Trace m (check_settings σ >>= k) xs a → Trace m (k tt) xs a

@@ -1,4 +1,5 @@
 -- Addresses at places of a list: one more, those of one part and then of the next, and words one after the other.
+use Rattle.std.proofs.Common.{Option, Some, None}
 use mathlib.Core.Path.{◌≡◌, refl, ap, sym, ◌∙◌}
 use mathlib.Core.List.{List, [], ◌∷◌, ◌++◌}
 use mathlib.Core.Bool.{Bool, true, false, ◌&&◌}
@@ -16,7 +17,6 @@ use Rattle.memory.proofs.ReadBounds.{if-cases}
 use Rattle.memory.proofs.RunLaws.{ahead_more}
 use Rattle.state.specs.declared.Fields.{Fields}
 use Rattle.layout.specs.declared.OverlayHead.{OverlayHead}
-use Rattle.layout.specs.declared.OverlayHead.TheVariants.{NoOverlay, Over}
 use Rattle.layout.specs.Layout.{Overlay}
 use Rattle.layout.specs.Answers.{overlay_of}
 use Rattle.codes.specs.declared.AttributeList.{AttributeList}
@@ -70,11 +70,11 @@ pointed-short linear n p =
     if-cases (λ (l : List ℕ). length l ≤ n) (null p) (λ _. zero-le) (λ _. omega (arith, length-turn linear n p.address))
 
 -- the blocks of a row, whatever the words of its window's segments are; and how many words they have at most
-pub blocks-same : (linear : Bool) (m : List ℕ) (f : Fields) (o : OverlayHead) (ws vs : List ℕ)
+pub blocks-same : (linear : Bool) (m : List ℕ) (f : Fields) (o : Option OverlayHead) (ws vs : List ℕ)
     → block_addresses linear m f (overlay_of linear o ws) ≡ block_addresses linear m f (overlay_of linear o vs)
 unfolding block_addresses over_rows
-blocks-same linear m f NoOverlay ws vs = refl
-blocks-same linear m f (Over number first end count) ws vs = refl
+blocks-same linear m f None ws vs = refl
+blocks-same linear m f (Some o) ws vs = refl
 
 pub blocks-short : (linear : Bool) (m : List ℕ) (f : Fields) (o : Overlay) → length (block_addresses linear m f o) ≤ 167
 unfolding block_addresses plan_addresses

@@ -1,12 +1,10 @@
 -- The addresses of the words that an accepted start or row reads, in order, told from what it was planned from and from its cells: what the
 -- functions of this crate write, no rules of their own. That these are the addresses the definitions ask for is proved (proofs/Asked.antt).
-use Rattle.std.specs.Prelude.{ℕ, zero, suc, ◌+◌, ◌-◌, ◌*◌, ◌/◌, ◌%◌, Bool, true, false, ◌&&◌, List, [], ◌∷◌, ◌++◌, length, get_or, ltb, eqb}
+use Rattle.std.specs.Prelude.{ℕ, zero, suc, ◌+◌, ◌-◌, ◌*◌, ◌/◌, ◌%◌, Bool, true, false, ◌&&◌, List, [], ◌∷◌, ◌++◌, length, get_or, ltb, eqb, Option, Some, None}
 use Rattle.memory.specs.Word.{when◌then◌else◌, bit, high, low}
 use Rattle.memory.specs.declared.Pointer.{Pointer}
 use Rattle.memory.specs.Address.{nothing, pointer, null, ahead, onward}
 use Rattle.settings.specs.declared.Settings.{Settings}
-use Rattle.windows.specs.declared.WindowInHand.{WindowInHand}
-use Rattle.windows.specs.declared.WindowInHand.TheVariants.{Absent, Present}
 use Rattle.state.specs.declared.Fields.{Fields}
 use Rattle.blocks.specs.declared.FillMode.{FillMode}
 use Rattle.blocks.specs.declared.Segment.{Segment}
@@ -16,6 +14,7 @@ use Rattle.codes.specs.declared.CodeSettings.{CodeSettings}
 use Rattle.codes.specs.declared.AttributeList.{AttributeList}
 use Rattle.codes.specs.Attribute.{invokes, source_of}
 use Rattle.codes.specs.Codes.{list_at, no_list}
+use Rattle.windows.specs.declared.Window.{Window}
 use Rattle.noting.specs.Noting.{in_turn}
 use Rattle.cells.specs.Cells.{code_count}
 use Rattle.start.specs.Top.{registered}
@@ -52,17 +51,17 @@ unfoldable pub redefinition_of : Bool → List ℕ → Pointer → Pointer
 redefinition_of linear m p = when null p then nothing else (when bit 15 (head_word linear m p) then pointer_in linear m 3 p.address else nothing)
 
 -- the window block that is due before a row, null where none is
-unfoldable pub due_of : ℕ → WindowInHand → Pointer
-due_of row Absent = nothing
-due_of row (Present w) = when ltb w.block.bottom row then w.block.link else nothing
+unfoldable pub due_of : ℕ → Option Window → Pointer
+due_of row None = nothing
+due_of row (Some w) = when ltb w.block.bottom row then w.block.link else nothing
 
 -- the row block of the window in hand
-unfoldable pub rows_of : Bool → List ℕ → ℕ → WindowInHand → Pointer
-rows_of linear m row Absent = nothing
-rows_of linear m row (Present w) = when ltb w.block.bottom row then pointer_in linear m 2 w.block.link.address else w.rows
+unfoldable pub rows_of : Bool → List ℕ → ℕ → Option Window → Pointer
+rows_of linear m row None = nothing
+rows_of linear m row (Some w) = when ltb w.block.bottom row then pointer_in linear m 2 w.block.link.address else w.rows
 
 -- .. on a row with a window; null on others
-unfoldable pub over_rows : Bool → List ℕ → ℕ → WindowInHand → Overlay → Pointer
+unfoldable pub over_rows : Bool → List ℕ → ℕ → Option Window → Overlay → Pointer
 over_rows linear m row w none = nothing
 over_rows linear m row w (over number first end ws) = rows_of linear m row w
 

@@ -4,16 +4,13 @@ ghost use Rattle.std.proofs.lemmas.List.Edits.{sets};
 ghost use Rattle.noting.specs.Noting.{in_turn};
 ghost use Rattle.addresses.specs.Addresses.{word_in, pointed};
 
-use memory::{Fetch, Pointer};
+use memory::Pointer;
 
 // The word at an address; 0 where there is none.
 pub(crate) fn word_in(mem: &[u16], a: u32) -> u16
     ensures { result ≡ word_in mem.now a }
 {
-    match memory::word_at(mem, a) {
-        Fetch::Word(w) => w,
-        Fetch::Absent => 0,
-    }
+    memory::word_at(mem, a).unwrap_or(0)
 }
 
 // The addresses of `n` words from a pointer on, from the place `at` on; none where it is null. The next place.
@@ -35,9 +32,7 @@ pub(crate) fn put_run(linear: bool, n: usize, a: u32, at: usize, list: &mut [u32
     requires { (at + n ≤ length list.old) × (n ≤ 1000) }
     ensures { list.new ≡ sets list.old at (in_turn linear n a) }
 {
-    let mut i = 0;
-    while i < n {
+    for i in 0..n {
         list[at + i] = memory::words_ahead(linear, i as u32, a);
-        i += 1;
     }
 }

@@ -44,7 +44,7 @@ pub fn put_blocks(
     mem: &[u16],
     linear: bool,
     fields: Fields,
-    overlay: OverlayHead,
+    overlay: Option<OverlayHead>,
     at: usize,
     list: &mut [u32],
 ) -> usize
@@ -65,7 +65,7 @@ pub fn put_row(
     mem: &[u16],
     settings: CodeSettings,
     fields: Fields,
-    overlay: OverlayHead,
+    overlay: Option<OverlayHead>,
     back: &[u16; 75],
     count: SegmentCount,
     window: &[u16; 75],

@@ -8,7 +8,7 @@ ghost use Rattle.addresses.specs.Addresses.{pointed, head_word, block_words, poi
 use crate::consecutive;
 use layout::OverlayHead;
 use memory::Pointer;
-use windows::WindowInHand;
+use windows::Window;
 
 // A due window, the row block at `next`, its redefinition, and the window's row block at `rows`. The next place.
 pub(crate) fn put_plan(
@@ -32,16 +32,16 @@ pub(crate) fn put_plan(
 }
 
 // The window block that is due before a row; null where none is.
-pub(crate) fn due_of(row: u32, w: WindowInHand) -> Pointer
+pub(crate) fn due_of(row: u32, w: Option<Window>) -> Pointer
     ensures { result ≡ due_of row w }
 {
     match w {
-        WindowInHand::Absent => null(),
-        WindowInHand::Present(x) => {
+        None => Pointer::NULL,
+        Some(x) => {
             if (x.block.bottom as u32) < row {
                 x.block.link
             } else {
-                null()
+                Pointer::NULL
             }
         }
     }
@@ -52,29 +52,24 @@ pub(crate) fn over_rows(
     mem: &[u16],
     linear: bool,
     row: u32,
-    w: WindowInHand,
-    overlay: OverlayHead,
+    w: Option<Window>,
+    overlay: Option<OverlayHead>,
 ) -> Pointer
     ensures { (ws : List ℕ) → result ≡ over_rows linear mem.now row w (overlay_of linear overlay ws) }
 {
     match overlay {
-        OverlayHead::NoOverlay => null(),
-        OverlayHead::Over {
-            number: _,
-            first: _,
-            end: _,
-            count: _,
-        } => rows_of(mem, linear, row, w),
+        None => Pointer::NULL,
+        Some(_) => rows_of(mem, linear, row, w),
     }
 }
 
 // The row block of the window in hand: of one that is due, as its block says.
-fn rows_of(mem: &[u16], linear: bool, row: u32, w: WindowInHand) -> Pointer
+fn rows_of(mem: &[u16], linear: bool, row: u32, w: Option<Window>) -> Pointer
     ensures { result ≡ rows_of linear mem.now row w }
 {
     match w {
-        WindowInHand::Absent => null(),
-        WindowInHand::Present(x) => {
+        None => Pointer::NULL,
+        Some(x) => {
             if (x.block.bottom as u32) < row {
                 pointer_in(mem, linear, 2, x.block.link.address)
             } else {
@@ -89,12 +84,12 @@ fn redefinition_of(mem: &[u16], linear: bool, p: Pointer) -> Pointer
     ensures { result ≡ redefinition_of linear mem.now p }
 {
     if p.address == 0 {
-        return null();
+        return Pointer::NULL;
     }
     if memory::bit_15(head_word(mem, linear, p)) {
         pointer_in(mem, linear, 3, p.address)
     } else {
-        null()
+        Pointer::NULL
     }
 }
 
@@ -143,13 +138,4 @@ fn pointer_in(mem: &[u16], linear: bool, k: u32, a: u32) -> Pointer
     let first = consecutive::word_in(mem, at);
     let second = consecutive::word_in(mem, memory::words_ahead(linear, k + 1, a));
     memory::pointer_of(linear, at, first, second)
-}
-
-fn null() -> Pointer
-    ensures { result ≡ nothing }
-{
-    Pointer {
-        address: 0,
-        from: 0,
-    }
 }

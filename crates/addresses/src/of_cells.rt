@@ -32,7 +32,7 @@ pub(crate) fn put_cells(
     mem: &[u16],
     settings: CodeSettings,
     fill: FillMode,
-    overlay: OverlayHead,
+    overlay: Option<OverlayHead>,
     back: &[u16; 75],
     count: SegmentCount,
     window: &[u16; 75],
@@ -50,7 +50,7 @@ pub(crate) fn put_cells(
         list: no_list(),
     };
     match overlay {
-        OverlayHead::NoOverlay => {
+        None => {
             let stretch = Stretch {
                 settings,
                 fill,
@@ -60,13 +60,8 @@ pub(crate) fn put_cells(
             };
             put_stretch(mem, cells, stretch, back, count, to, list);
         }
-        OverlayHead::Over {
-            number: _,
-            first,
-            end,
-            count: n,
-        } => put_around(
-            mem, settings, fill, first, end, back, count, window, n, cells, to, list,
+        Some(o) => put_around(
+            mem, settings, fill, o.first, o.end, back, count, window, o.count, cells, to, list,
         ),
     }
 }
@@ -149,15 +144,13 @@ fn put_stretch(
     let mut to = from;
     let mut column = stretch.column;
     let mut s = 0;
-    let mut i = 0;
-    while i < n {
+    for i in 0..n {
         let g = blocks::segment_at(settings.linear, count, segments, i);
         let w = layout::width(settings.hidden, g);
         let chosen = layout::on_side(side, s, w);
         to = put_chosen(mem, settings, fill, cells, chosen, column, g, to, list);
         column += chosen_width(chosen, w);
         s += w;
-        i += 1;
     }
     let l = to.list;
     let due = does_fill(fill, l, column < stretch.end);
@@ -260,8 +253,5 @@ fn list_at(p: Pointer) -> AttributeList
 fn no_list() -> AttributeList
     ensures { result ≡ no_list }
 {
-    list_at(Pointer {
-        address: 0,
-        from: 0,
-    })
+    list_at(Pointer::NULL)
 }

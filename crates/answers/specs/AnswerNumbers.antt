@@ -1,6 +1,7 @@
 -- Answers as numbers at their places.
 use Rattle.std.specs.Prelude.{ℕ, List, [], ◌∷◌, set}
 use Rattle.memory.specs.declared.Refusal.{Refusal}
+use Rattle.blocks.specs.declared.RowFormat.{RowFormat}
 use Rattle.settings.specs.declared.Sheet.{Sheet}
 use Rattle.row.specs.declared.DrawnRow.{DrawnRow}
 
@@ -16,8 +17,12 @@ sheet_numbers t =
 abbrev pub one_number : ℕ → List ℕ
 one_number n = 0 ∷ 0 ∷ 0 ∷ n ∷ []
 
+-- a row of this number, with these lines, this format and this word count
+abbrev pub row_told : ℕ → ℕ → RowFormat → ℕ → List ℕ
+row_told number lines f words = number ∷ 0 ∷ 0 ∷ lines ∷ f.attributes ∷ f.curs ∷ f.cure ∷ words ∷ []
+
 unfoldable pub row_numbers : DrawnRow → List ℕ
-row_numbers d = d.number ∷ 0 ∷ 0 ∷ d.lines ∷ d.format.attributes ∷ d.format.curs ∷ d.format.cure ∷ d.words ∷ []
+row_numbers d = row_told d.number d.lines d.format d.words
 
 -- an answer with a refusal in it
 abbrev pub with_refusal : Refusal → List ℕ → List ℕ

@@ -1,20 +1,20 @@
 // Answers as numbers at their places.
 ghost use Rattle.std.specs.Prelude.{◌≡◌, ◌≤◌, length};
-ghost use Rattle.answers.specs.AnswerNumbers.{sheet_numbers, one_number, row_numbers, with_refusal};
+ghost use Rattle.answers.specs.AnswerNumbers.{sheet_numbers, one_number, row_told, with_refusal};
 
+use blocks::RowFormat;
 use memory::Refusal;
-use numbers::encode;
-use row::DrawnRow;
 use settings::Sheet;
 
-pub fn write_sheet(sheet: Sheet, into: &mut [u32])
-    requires { length into.old ≡ 21 }
+// A sheet's numbers.
+#[tactic(auto, unfolding(crate::specs::AnswerNumbers::sheet_numbers))]
+pub fn write_sheet(sheet: Sheet, into: &mut [u32; 21])
     ensures { into.new ≡ sheet_numbers sheet }
 {
     let e = sheet.even;
     let o = sheet.odd;
     let c = sheet.clocks;
-    let numbers = [
+    *into = [
         0,
         0,
         0,
@@ -37,34 +37,29 @@ pub fn write_sheet(sheet: Sheet, into: &mut [u32])
         c.fall as u32,
         sheet.invoking as u32,
     ];
-    encode::write(&numbers, into);
 }
 
 // An accepted call's one number.
-pub fn write_number(n: u32, into: &mut [u32])
-    requires { length into.old ≡ 4 }
+pub fn write_number(n: u32, into: &mut [u32; 4])
     ensures { into.new ≡ one_number n }
 {
-    let numbers = [0, 0, 0, n];
-    encode::write(&numbers, into);
+    *into = [0, 0, 0, n];
 }
 
-pub fn write_row(row: DrawnRow, into: &mut [u32])
-    requires { length into.old ≡ 8 }
-    ensures { into.new ≡ row_numbers row }
+// An accepted row's numbers, of a frame or beside its cut.
+pub fn write_row(number: u32, lines: u16, format: RowFormat, words: u32, into: &mut [u32; 8])
+    ensures { into.new ≡ row_told number lines format words }
 {
-    let format = row.format;
-    let numbers = [
-        row.number,
+    *into = [
+        number,
         0,
         0,
-        row.lines as u32,
+        lines as u32,
         format.attributes as u32,
         format.curs as u32,
         format.cure as u32,
-        row.words,
+        words,
     ];
-    encode::write(&numbers, into);
 }
 
 // A refusal's row and addresses, in an answer; its number.

@@ -5,16 +5,16 @@ ghost use Rattle.memory.specs.Reading.{run};
 ghost use Rattle.background.specs.Background.{background_block, background_row};
 ghost use Rattle.background.specs.Answers.{background_read};
 
-use blocks::{BlockHead, BlockRead, FormatRead, RowFormat};
+use blocks::{BlockHead, FormatRead, RowFormat};
 use memory::{Fault, Pointer};
 use settings::Settings;
 use state::Fields;
 
 // A row's block, its words with those of its redefinition, and the format that this makes; or a refusal.
 #[derive(Clone, Copy)]
-pub enum BackgroundRead {
-    Read { block: BlockHead, format: RowFormat },
-    Refused(Fault),
+pub struct BackgroundRead {
+    pub block: BlockHead,
+    pub format: RowFormat,
 }
 
 // The whole row block that a pointer leads to, with the words of its segments in `back`, then its redefinition of a format.
@@ -24,29 +24,21 @@ pub fn background_block(
     p: Pointer,
     format: RowFormat,
     back: &mut [u16; 75],
-) -> BackgroundRead
+) -> Result<BackgroundRead, Fault>
     ensures { background_read linear result back.new ≡ run mem.now (background_block linear p format) }
 {
-    match blocks::row_block(mem, linear, p, back) {
-        BlockRead::Read(b) => {
-            let redefinition = b.redefinition;
-            match blocks::redefinition(mem, linear, redefinition, format) {
-                FormatRead::Read { format, words } => {
-                    let link = b.link;
-                    let count = b.count;
-                    let block = BlockHead {
-                        link,
-                        redefinition,
-                        count,
-                        words: b.words + words,
-                    };
-                    BackgroundRead::Read { block, format }
-                }
-                FormatRead::Refused(fault) => BackgroundRead::Refused(fault),
-            }
-        }
-        BlockRead::Refused(fault) => BackgroundRead::Refused(fault),
-    }
+    let b = blocks::row_block(mem, linear, p, back)?;
+    let redefinition = b.redefinition;
+    let FormatRead { format, words } = blocks::redefinition(mem, linear, redefinition, format)?;
+    let link = b.link;
+    let count = b.count;
+    let block = BlockHead {
+        link,
+        redefinition,
+        count,
+        words: b.words + words,
+    };
+    Ok(BackgroundRead { block, format })
 }
 
 // The whole row block, then its redefinition; then checks 9 and 10 on its segments.
@@ -55,7 +47,7 @@ pub fn background_row(
     settings: Settings,
     fields: Fields,
     back: &mut [u16; 75],
-) -> BackgroundRead
+) -> Result<BackgroundRead, Fault>
     ensures { background_read settings.linear result back.new ≡ run mem.now (background_row settings fields) }
 {
     // field by field, as in `state::in_range`
@@ -64,18 +56,20 @@ pub fn background_row(
         from: fields.next.from,
     };
     let format = fields.format;
-    match background_block(mem, settings.linear, next, format, back) {
-        BackgroundRead::Read { block, format } => {
-            let count = block.count;
-            let m = layout::measure_segments(settings.linear, settings.hidden, back, count);
-            if !m.fit {
-                return BackgroundRead::Refused(memory::blame(9, next));
-            }
-            if 132 < m.width {
-                return BackgroundRead::Refused(memory::blame(10, next));
-            }
-            BackgroundRead::Read { block, format }
-        }
-        BackgroundRead::Refused(fault) => BackgroundRead::Refused(fault),
+    let BackgroundRead { block, format } = background_block(
+        mem,
+        settings.linear,
+        next,
+        format,
+        back,
+    )?;
+    let count = block.count;
+    let m = layout::measure_segments(settings.linear, settings.hidden, back, count);
+    if !m.fit {
+        return Err(memory::blame(9, next));
     }
+    if 132 < m.width {
+        return Err(memory::blame(10, next));
+    }
+    Ok(BackgroundRead { block, format })
 }

@@ -1,14 +1,12 @@
 #![tactic(auto)]
 // The row beside the cut of a soft scroll, in a row buffer of its own.
 ghost use Rattle.std.specs.Prelude.{◌≡◌, ◌<◌};
-ghost use Rattle.row.specs.declared.RowAnswer.TheVariants as Row;
 ghost use Rattle.beside.specs.Beside.{told, beside_called, with_one_line, row_below, with_top, row_above, beside_call};
 
 use blocks::RowFormat;
 use memory::Refusal;
-use row::{DrawnRow, RowAnswer};
+use row::DrawnRow;
 use settings::{PointerWords, Settings};
-use start::StartAnswer;
 use state::{Fields, State};
 
 // The answer of an accepted row beside the cut: no next state, since nothing of it goes on into the frame.
@@ -18,14 +16,6 @@ pub struct BesideRow {
     pub lines: u16,
     pub format: RowFormat,
     pub words: u32,
-}
-
-// The row beside the cut, that there is none, or its refusal.
-#[derive(Clone, Copy)]
-pub enum BesideAnswer {
-    Absent,
-    Drawn(BesideRow),
-    Refused(Refusal),
 }
 
 // The row beside the cut of a frame with a shift, its cells in `buffer`: up, the row after `last`, the state that the frame ended with;
@@ -38,7 +28,7 @@ pub fn beside(
     latch: u16,
     last: State,
     buffer: &mut [u32],
-) -> BesideAnswer
+) -> Result<Option<BesideRow>, Refusal>
     ensures { beside_called result buffer.new ≡ beside_call settings mem.now shift soft latch last buffer.old }
 {
     if 0 < shift {
@@ -47,11 +37,16 @@ pub fn beside(
     if shift < 0 {
         return row_above(with_top(settings, soft), mem, latch, buffer);
     }
-    BesideAnswer::Absent
+    Ok(None)
 }
 
 // Up: the row after the frame's last, given one line.
-fn row_below(settings: Settings, mem: &[u16], last: State, buffer: &mut [u32]) -> BesideAnswer
+fn row_below(
+    settings: Settings,
+    mem: &[u16],
+    last: State,
+    buffer: &mut [u32],
+) -> Result<Option<BesideRow>, Refusal>
     ensures { beside_called result buffer.new ≡ row_below settings mem.now last buffer.old }
 {
     let f = last.fields;
@@ -60,59 +55,52 @@ fn row_below(settings: Settings, mem: &[u16], last: State, buffer: &mut [u32]) -
         latch: last.latch,
         fields,
     };
-    match row::row(settings, mem, state, buffer) {
-        RowAnswer::Refused(refusal) => BesideAnswer::Refused(refusal),
-        RowAnswer::Accepted(row) => tell(0, row),
-    }
+    let row = row::row(settings, mem, state, buffer)?;
+    Ok(Some(tell(0, row)))
 }
 
 // Down: row 0 of a start with these settings.
-fn row_above(settings: Settings, mem: &[u16], latch: u16, buffer: &mut [u32]) -> BesideAnswer
+fn row_above(
+    settings: Settings,
+    mem: &[u16],
+    latch: u16,
+    buffer: &mut [u32],
+) -> Result<Option<BesideRow>, Refusal>
     ensures { beside_called result buffer.new ≡ row_above settings mem.now latch buffer.old }
 {
     if buffer.len() != 132 {
-        return BesideAnswer::Refused(memory::refusal_of(0, memory::fault_of(1)));
+        return memory::refused(1);
     }
-    match start::start(settings, mem, latch) {
-        StartAnswer::Refused(refusal) => BesideAnswer::Refused(refusal),
-        StartAnswer::Accepted(started) => {
-            let state = started.state;
-            match row::row(settings, mem, state, buffer) {
-                RowAnswer::Refused(refusal) => BesideAnswer::Refused(refusal),
-                RowAnswer::Accepted(row) => tell(started.words, row),
-            }
-        }
-    }
+    let started = start::start(settings, mem, latch)?;
+    let state = started.state;
+    let row = row::row(settings, mem, state, buffer)?;
+    Ok(Some(tell(started.words, row)))
 }
 
 // An accepted row's answer, `words` having been read for it before.
-pub fn tell(words: u32, row: DrawnRow) -> BesideAnswer
+pub fn tell(words: u32, row: DrawnRow) -> BesideRow
     requires { (words < 14) × (row.words < 12000) }
-    ensures { result ≡ told words (Row.Accepted row) }
+    ensures { Ok (Some result) ≡ told words (Ok row) }
 {
     let format = row.format;
-    BesideAnswer::Drawn(BesideRow {
+    BesideRow {
         number: row.number,
         lines: row.lines,
         format,
         words: words + row.words,
-    })
+    }
 }
 
 // The fields of the row below the frame's last.
 pub fn with_one_line(f: Fields) -> Fields
     ensures { result ≡ with_one_line f }
 {
-    let mut g = f;
-    g.left = 1;
-    g
+    Fields { left: 1, ..f }
 }
 
 // The settings with another hard top.
 pub fn with_top(settings: Settings, top: PointerWords) -> Settings
     ensures { result ≡ with_top settings top }
 {
-    let mut s = settings;
-    s.top = top;
-    s
+    Settings { top, ..settings }
 }

@@ -1,4 +1,5 @@
 -- The blocks that a row is drawn from: the pointers in them stand, and a refusal blames one that stands.
+use Rattle.std.proofs.Common.{Option, Some, None}
 use mathlib.Core.Path.{◌≡◌, refl, sym, ◌∙◌}
 use mathlib.Core.Bool.{Bool, true, false, ◌&&◌}
 use mathlib.Core.List.{List, []}
@@ -17,8 +18,6 @@ use Rattle.blocks.specs.declared.Segment.{Segment}
 use Rattle.blocks.specs.declared.RowFormat.{RowFormat}
 use Rattle.blocks.specs.RowBlock.{segment_roles, RowBlock, segment_of, segments_at, segments_from, rest_of_block, block_at, format_of, redefined}
 use Rattle.windows.specs.declared.Window.{Window}
-use Rattle.windows.specs.declared.WindowInHand.{WindowInHand}
-use Rattle.windows.specs.declared.WindowInHand.TheVariants.{Absent, Present}
 use Rattle.windows.specs.Window.{two_pointers, in_order, window_of, window_at}
 use Rattle.state.specs.State.{format_in_range}
 use Rattle.holding.proofs.Holds.{Each}
@@ -56,9 +55,9 @@ module _ (m : List ℕ) (b : Words m) (linear : Bool) where
     pub rows : Stands m b linear w.rows
     pub link : Stands m b linear w.block.link
 
-  abbrev pub HandStands : Type 0 → WindowInHand → Type 0
-  HandStands R Absent = Unit
-  HandStands R (Present w) = WindowStands w × R
+  abbrev pub HandStands : Type 0 → Option Window → Type 0
+  HandStands R None = Unit
+  HandStands R (Some w) = WindowStands w × R
 
   module _ (Q : Fault → Type 0) where
     -- a missing word blames the pointer in use

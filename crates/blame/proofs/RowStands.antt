@@ -1,4 +1,5 @@
 -- A row of a frame: its state is in range, the pointers in it stand, and a refusal blames one that stands. So the next state's do.
+use Rattle.std.proofs.Common.{Option, Some, None}
 use mathlib.Core.Path.{◌≡◌, refl, sym, ap, ◌∙◌}
 use mathlib.Core.Bool.{Bool, true, false, ◌&&◌}
 use mathlib.Core.List.{List, []}
@@ -17,8 +18,6 @@ use Rattle.settings.proofs.CheckLaws.{Passing, passing-done}
 use Rattle.blocks.specs.declared.RowFormat.{RowFormat}
 use Rattle.blocks.specs.declared.Segment.{Segment}
 use Rattle.blocks.specs.RowBlock.{RowBlock, row_block_at, window_row_at}
-use Rattle.windows.specs.declared.WindowInHand.{WindowInHand}
-use Rattle.windows.specs.declared.WindowInHand.TheVariants.{Absent, Present}
 use Rattle.windows.specs.Window.{window_at, due_window}
 use Rattle.windows.proofs.WindowBounds.{in_order_lem}
 use Rattle.state.specs.declared.Fields.{Fields}
@@ -29,6 +28,7 @@ use Rattle.layout.specs.Overlay.{Overlaid, window_row, overlaid}
 use Rattle.background.specs.Background.{background_block, background_row}
 use Rattle.plan.specs.Plan.{Plan, planned, next_fields, plan}
 use Rattle.codes.specs.Codes.{blank}
+use Rattle.windows.specs.declared.Window.{Window}
 use Rattle.row.specs.Row.{code_settings, row}
 use Rattle.blame.specs.declared.Place.{Place}
 use Rattle.blame.specs.declared.Place.TheVariants.{Memory}
@@ -51,7 +51,7 @@ module _ (σ : Settings) (m : List ℕ) (b : Words m) where
     pub next : Stands m b σ.linear f.next
 
   -- with a window in hand that the pointer at a place led to
-  abbrev pub LedTo : Place → WindowInHand → Type 0
+  abbrev pub LedTo : Place → Option Window → Type 0
   LedTo led w = HandStands m b σ.linear (HeldAt led) w
 
   pub record Ready (led : Place) (f : Fields) : Type 0 where
@@ -59,10 +59,10 @@ module _ (σ : Settings) (m : List ℕ) (b : Words m) where
     pub window : LedTo led f.window
 
   -- so check 3 passes
-  window-in-range : (led : Place) (w : WindowInHand) → LedTo led w → window_in_range w ≡ true
+  window-in-range : (led : Place) (w : Option Window) → LedTo led w → window_in_range w ≡ true
   unfolding window_in_range
-  window-in-range led Absent h = refl
-  window-in-range led (Present w) h = rw (h.0.ordered, le-leb w.block.number w.block.top h.0.numbered, h.0.rows.range, h.0.link.range)
+  window-in-range led None h = refl
+  window-in-range led (Some w) h = rw (h.0.ordered, le-leb w.block.number w.block.top h.0.numbered, h.0.rows.range, h.0.link.range)
 
   pub in-range : (led : Place) (f : Fields) → Ready led f → in_range f ≡ true
   unfolding in_range
@@ -132,10 +132,10 @@ module _ (σ : Settings) (m : List ℕ) (b : Words m) where
     abbrev Laid : Overlaid → Type 0
     Laid o = EachOver (SegmentStands m b σ.linear) o.overlay × Shown o.overlay × LedTo led o.window
 
-    overlaid-stands : (at : ℕ) (w : WindowInHand) → LedTo led w → Comes m Mends Laid (overlaid σ at w)
+    overlaid-stands : (at : ℕ) (w : Option Window) → LedTo led w → Comes m Mends Laid (overlaid σ at w)
     unfolding overlaid window_row window_row_at all_fit
-    overlaid-stands at Absent h = dones (tt, tt, tt)
-    overlaid-stands at (Present w) h =
+    overlaid-stands at None h = dones (tt, tt, tt)
+    overlaid-stands at (Some w) h =
         let s = h.0.rows in
         if-comes m Mends (leb w.block.top at && leb at w.block.bottom)
         (λ _. bind m Mends (block-stands m b σ.linear Mends false w.rows s (λ n a. missing a _ (s.held n))) λ k hk.
@@ -151,7 +151,7 @@ module _ (σ : Settings) (m : List ℕ) (b : Words m) where
 
     -- the next state's fields
     next-stands : (f : Fields) → FieldsStand f → 0 < f.left → (t : RowFormat) → format_in_range t ≡ true → (link : Pointer) → Stands m b σ.linear link
-        → (w : WindowInHand) → LedTo led w → Ready led (next_fields f t link w)
+        → (w : Option Window) → LedTo led w → Ready led (next_fields f t link w)
     unfolding next_fields
     next-stands f h l t ht link hl w hw =
         let lines : 1 ≤ t.lines = leb-true 1 t.lines (both (leb 1 t.lines) _ (both _ (leb t.curs 31) (both _ (leb t.cure 31) (both _ (leb t.attributes 1023) ht).0).0).0).0 in
@@ -163,7 +163,7 @@ module _ (σ : Settings) (m : List ℕ) (b : Words m) where
       pub overlay : EachOver (SegmentStands m b σ.linear) p.overlay
 
     -- once the window in hand is read, and the state's checks are passed
-    blocks-stand : (f : Fields) → FieldsStand f → 0 < f.left → (w : WindowInHand) → LedTo led w
+    blocks-stand : (f : Fields) → FieldsStand f → 0 < f.left → (w : Option Window) → LedTo led w
         → Comes m Mends Planned (do
           g ← background_row σ f
           o ← overlaid σ f.row w
@@ -183,17 +183,17 @@ module _ (σ : Settings) (m : List ℕ) (b : Words m) where
 
   -- ---- from a state, before its due window is read ----
   -- the pointer at `leader ..` led to the window in hand on the row
-  due-stands : (led : Place) (at : ℕ) (w : WindowInHand) → LedTo led w
+  due-stands : (led : Place) (at : ℕ) (w : Option Window) → LedTo led w
       → Comes m (Mends (leader at w led)) (LedTo (leader at w led)) (due_window σ.linear at w)
   unfolding due_window leader
-  due-stands led at Absent h = dones tt
-  due-stands led at (Present w) h = by (ltb w.block.bottom at)
+  due-stands led at None h = dones tt
+  due-stands led at (Some w) h = by (ltb w.block.bottom at)
     where
       next-led : Place
       next-led = Memory w.block.link.from
 
       by : (t : Bool) → Comes m (Mends (when t then next-led else led)) (LedTo (when t then next-led else led))
-          (when t then window_at σ.linear (w.block.number + 1) (w.block.bottom + 1) w.block.link else done (Present w))
+          (when t then window_at σ.linear (w.block.number + 1) (w.block.bottom + 1) w.block.link else done (Some w))
       by true =
           let o = in_order_lem w.block h.0.ordered in
           let s = h.0.link in

@@ -1,4 +1,5 @@
 -- The laws by which a proof follows the rows of a frame: one for each outcome of its next row.
+use Rattle.std.proofs.Common.{Ok, Err}
 use mathlib.Core.Path.{◌≡◌, refl, sym, ap, ◌∙◌}
 use mathlib.Core.Bool.{Bool, true, false}
 use mathlib.Core.List.{List}
@@ -18,7 +19,6 @@ use Rattle.row.proofs.RowBound.{row-drawn}
 use Rattle.blame.specs.declared.Place.{Place}
 use Rattle.blame.specs.declared.Verdict.{Verdict}
 use Rattle.blame.specs.declared.Verdict.TheVariants.{Whole}
-use Rattle.blame.specs.declared.RowWalk.TheVariants as Walk
 use Rattle.blame.specs.Blame.{leader, refused_row, next_state, by_row, rows_within, rows}
 use Rattle.blame.specs.Answers.{walked}
 
@@ -62,29 +62,29 @@ module _ (σ : Settings) (m : List ℕ) (w : Words m) where
         (agree (rows_within n σ m) (rows σ m) _ _ s (run m (row σ s)) refl λ led₁ t less. enough n _ led₁ t (omega arith) (le_refl _))
 
     -- from what `walk_row` says of the row
-    pub next-fewer : {t : State} → Walk.Next t ≡ walked (run m (row σ s)) → t.fields.left < s.fields.left
+    pub next-fewer : {t : State} → Ok t ≡ walked (run m (row σ s)) → t.fields.left < s.fields.left
     next-fewer {t} e = by (run m (row σ s)) refl e
       where
-        by : (o : Outcome Row) → run m (row σ s) ≡ o → Walk.Next t ≡ walked o → t.fields.left < s.fields.left
+        by : (o : Outcome Row) → run m (row σ s) ≡ o → Ok t ≡ walked o → t.fields.left < s.fields.left
         by (given n r) h k =
             let same : t ≡ next_state r = cc in
             omega (arith, ap (λ (t : State). t.fields.left) same, (row-drawn σ m w s h).1.fewer)
         by (refused x) h k = let q : ◌≡◌ {A = ℕ} 0 1 = cc in absurd (omega arith)
 
-    pub next-rows : (s.fields.left ≡ 0 → ⊥) → {t : State} → Walk.Next t ≡ walked (run m (row σ s))
+    pub next-rows : (s.fields.left ≡ 0 → ⊥) → {t : State} → Ok t ≡ walked (run m (row σ s))
         → rows σ m led s ≡ rows σ m (leader s.fields.row s.fields.window led) t
     next-rows l {t} e = rows_row l ∙ by (run m (row σ s)) e
       where
-        by : (o : Outcome Row) → Walk.Next t ≡ walked o → by_row (rows σ m) (leader s.fields.row s.fields.window led) s.fields.row o
+        by : (o : Outcome Row) → Ok t ≡ walked o → by_row (rows σ m) (leader s.fields.row s.fields.window led) s.fields.row o
             ≡ rows σ m (leader s.fields.row s.fields.window led) t
         by (given n r) k = let same : next_state r ≡ t = cc in ap (rows σ m _) same
         by (refused x) k = let q : ◌≡◌ {A = ℕ} 0 1 = cc in absurd (omega arith)
 
-    pub refused-rows : (s.fields.left ≡ 0 → ⊥) → {x : Fault} → Walk.Refused x ≡ walked (run m (row σ s))
+    pub refused-rows : (s.fields.left ≡ 0 → ⊥) → {x : Fault} → Err x ≡ walked (run m (row σ s))
         → rows σ m led s ≡ refused_row (leader s.fields.row s.fields.window led) s.fields.row x
     refused-rows l {x} e = rows_row l ∙ by (run m (row σ s)) e
       where
-        by : (o : Outcome Row) → Walk.Refused x ≡ walked o → by_row (rows σ m) (leader s.fields.row s.fields.window led) s.fields.row o
+        by : (o : Outcome Row) → Err x ≡ walked o → by_row (rows σ m) (leader s.fields.row s.fields.window led) s.fields.row o
             ≡ refused_row (leader s.fields.row s.fields.window led) s.fields.row x
         by (given n r) k = let q : ◌≡◌ {A = ℕ} 0 1 = cc in absurd (omega arith)
         by (refused y) k = let same : y ≡ x = cc in ap (refused_row _ _) same

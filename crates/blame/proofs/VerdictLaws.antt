@@ -1,4 +1,5 @@
 -- The laws by which a proof follows a verdict: its main block, its start, its rows.
+use Rattle.std.proofs.Common.{Ok, Err}
 use mathlib.Core.Path.{◌≡◌, ap}
 use mathlib.Core.List.{List}
 use Prim.Native.Nat.{ℕ}
@@ -12,7 +13,6 @@ use Rattle.settings.specs.Good.{check_settings}
 use Rattle.blocks.specs.declared.MainBlock.{MainBlock}
 use Rattle.state.specs.declared.State.{State}
 use Rattle.start.specs.declared.Started.{Started}
-use Rattle.start.specs.declared.StartAnswer.TheVariants as Start
 use Rattle.start.specs.Top.{top_block}
 use Rattle.start.specs.Start.{start_from, started, start_call}
 use Rattle.blame.specs.declared.Place.TheVariants.{Register}
@@ -34,19 +34,19 @@ module _ (latch : ℕ) (σ : Settings) (m : List ℕ) where
   main-refused e = rw e
 
   module _ {n : ℕ} {b : MainBlock} (e : run m (main_of σ) ≡ given n b) where
-    pub start-refused : {r : Refusal} → Start.Refused r ≡ start_call latch σ m → verdict latch σ m ≡ Blamed Register r.number
+    pub start-refused : {r : Refusal} → Err r ≡ start_call latch σ m → verdict latch σ m ≡ Blamed Register r.number
     unfolding verdict start_call
     start-refused {r} h = rw e (by (run m (start_from latch σ)) h)
       where
-        by : (o : Outcome State) → Start.Refused r ≡ started o → by_start σ m (given n b) o ≡ Blamed Register r.number
+        by : (o : Outcome State) → Err r ≡ started o → by_start σ m (given n b) o ≡ Blamed Register r.number
         by (given k s) h = let q : ◌≡◌ {A = ℕ} 0 1 = cc in absurd (omega arith)
         by (refused x) h = let same : refusal 0 x ≡ r = cc in ap (λ (r : Refusal). Blamed Register r.number) same
 
-    pub start-given : {a : Started} → Start.Accepted a ≡ start_call latch σ m → verdict latch σ m ≡ rows σ m Register a.state
+    pub start-given : {a : Started} → Ok a ≡ start_call latch σ m → verdict latch σ m ≡ rows σ m Register a.state
     unfolding verdict start_call
     start-given {a} h = rw e (by (run m (start_from latch σ)) h)
       where
-        by : (o : Outcome State) → Start.Accepted a ≡ started o → by_start σ m (given n b) o ≡ rows σ m Register a.state
+        by : (o : Outcome State) → Ok a ≡ started o → by_start σ m (given n b) o ≡ rows σ m Register a.state
         by (given k s) h =
             let same : record { words = k; state = s } ≡ a = cc in
             ap (λ (a : Started). rows σ m Register a.state) same

@@ -1,5 +1,5 @@
 -- Document 02, "Mending damaged lists": which pointer a refusal blames.
-use Rattle.std.specs.Prelude.{ℕ, zero, suc, ◌/◌, Bool, ◌&&◌, ◌||◌, List, get_or, ltb, leb, eqb}
+use Rattle.std.specs.Prelude.{ℕ, zero, suc, ◌/◌, Bool, ◌&&◌, ◌||◌, List, get_or, ltb, leb, eqb, Option, Some, None}
 use Rattle.memory.specs.Word.{when◌then◌else◌}
 use Rattle.memory.specs.declared.Fault.{Fault}
 use Rattle.memory.specs.Address.{next_word}
@@ -7,8 +7,7 @@ use Rattle.memory.specs.Reading.{Reading, ◌>>◌, Outcome, given, refused, ref
 use Rattle.settings.specs.declared.Settings.{Settings}
 use Rattle.settings.specs.Good.{check_settings}
 use Rattle.blocks.specs.declared.MainBlock.{MainBlock}
-use Rattle.windows.specs.declared.WindowInHand.{WindowInHand}
-use Rattle.windows.specs.declared.WindowInHand.TheVariants.{Absent, Present}
+use Rattle.windows.specs.declared.Window.{Window}
 use Rattle.state.specs.declared.State.{State}
 use Rattle.state.specs.State.{state_of}
 use Rattle.start.specs.Top.{top_block}
@@ -30,9 +29,9 @@ second_word (Memory a) σ m = get_or m (next_word σ.linear a / 2) 0
 
 -- "for 8, 11 and 12 the one that led to the window": to the window in hand on a row. The next window block is read where the row has passed
 -- this one's last row; then it is this one's link, before that the one that led to this one.
-unfoldable pub leader : ℕ → WindowInHand → Place → Place
-leader row Absent led = led
-leader row (Present w) led = when ltb w.block.bottom row then Memory w.block.link.from else led
+unfoldable pub leader : ℕ → Option Window → Place → Place
+leader row None led = led
+leader row (Some w) led = when ltb w.block.bottom row then Memory w.block.link.from else led
 
 -- "for 7 the pointer in use, for 13 the attribute pointer in use, for 9 and 10 the one that led to the row block or window row block": it
 -- begins where the refusal on its way up says, and so does the one that led to a window refused 8. For 11 and 12 it is the one that led to

@@ -2,20 +2,19 @@
 // Which pointer a refusal of a frame blames: a frame is drawn, its cells are not kept.
 ghost use Rattle.std.specs.Prelude.{◌≡◌, ◌||◌, eqb};
 ghost use Rattle.memory.specs.Reading.{given, run};
+ghost use Rattle.blocks.specs.Answers.{main_read};
 ghost use Rattle.plan.specs.Plan.{plan};
 ghost use Rattle.plan.specs.Answers.{plan_of};
 ghost use Rattle.row.specs.Row.{row};
-ghost use Rattle.blame.specs.Blame.{leader, blamed, mendable, refused_row, rows, verdict};
+ghost use Rattle.blame.specs.Blame.{leader, blamed, mendable, refused_row, rows, main_of, verdict};
 ghost use Rattle.blame.specs.Answers.{walked};
 
-use blocks::MainRead;
-use cells::CellsDrawn;
+use blocks::MainBlock;
 use memory::{Fault, Refusal};
-use plan::{PlanAnswer, PlanHead};
-use settings::{Settings, SettingsCheck};
-use start::StartAnswer;
+use plan::PlanHead;
+use settings::Settings;
 use state::State;
-use windows::WindowInHand;
+use windows::Window;
 
 // Where the two words of a pointer stand: in the register TOW, or in memory from an address on.
 #[derive(Clone, Copy)]
@@ -33,36 +32,28 @@ pub enum Verdict {
     Refused(Refusal),
 }
 
-// The state after a row, or the row's refusal.
-#[derive(Clone, Copy)]
-pub enum RowWalk {
-    Next(State),
-    Refused(Fault),
-}
-
 // What drawing a frame from a latch comes to.
 pub fn frame_verdict(settings: Settings, mem: &[u16], latch: u16) -> Verdict
     ensures { result ≡ verdict latch settings mem.now }
 {
-    match settings::check_settings(settings) {
-        SettingsCheck::Refused(fault) => Verdict::Refused(memory::refusal_of(0, fault)),
-        SettingsCheck::Passed => {
-            let top = settings.top;
-            match start::top_block(mem, settings.linear, top) {
-                MainRead::Refused(fault) => Verdict::Refused(memory::refusal_of(0, fault)),
-                MainRead::Read(_) => match start::start(settings, mem, latch) {
-                    StartAnswer::Refused(refusal) => Verdict::Blamed {
-                        place: Place::Register,
-                        number: refusal.number,
-                    },
-                    StartAnswer::Accepted(started) => {
-                        let state = started.state;
-                        walk_rows(settings, mem, state)
-                    }
-                },
-            }
-        }
+    if let Err(fault) = main_of(settings, mem) {
+        return Verdict::Refused(memory::refusal_of(0, fault));
     }
+    match start::start(settings, mem, latch) {
+        Err(refusal) => Verdict::Blamed {
+            place: Place::Register,
+            number: refusal.number,
+        },
+        Ok(started) => walk_rows(settings, mem, started.state),
+    }
+}
+
+// A start up to its main block, or the refusal that it meets there.
+fn main_of(settings: Settings, mem: &[u16]) -> Result<MainBlock, Fault>
+    ensures { main_read result ≡ run mem.now (main_of settings) }
+{
+    settings::check_settings(settings)?;
+    start::top_block(mem, settings.linear, settings.top)
 }
 
 // The rows of a frame, from the state of its start.
@@ -72,18 +63,12 @@ fn walk_rows(settings: Settings, mem: &[u16], first: State) -> Verdict
     let mut led = Place::Register;
     let mut state = first;
     while 0 < state.fields.left {
-        let fields = state.fields;
-        let row = fields.row;
-        let window = fields.window;
-        led = leader(row, window, led);
-        match walk_row(settings, mem, state) {
-            RowWalk::Next(next) => {
-                state = next;
-            }
-            RowWalk::Refused(fault) => {
-                return judged(led, row, fault);
-            }
-        }
+        let row = state.fields.row;
+        led = leader(row, state.fields.window, led);
+        state = match walk_row(settings, mem, state) {
+            Ok(next) => next,
+            Err(fault) => return judged(led, row, fault),
+        };
     }
     Verdict::Whole
 }
@@ -106,22 +91,16 @@ fn judged(led: Place, row: u32, fault: Fault) -> Verdict
 fn is_mendable(number: u8) -> bool
     ensures { result ≡ mendable number }
 {
-    (7 <= number) & (number <= 13)
+    matches!(number, 7..=13)
 }
 
 // The pointer that led to the window in hand on a row.
-fn leader(row: u32, window: WindowInHand, led: Place) -> Place
+fn leader(row: u32, window: Option<Window>, led: Place) -> Place
     ensures { result ≡ leader row «window» «led» }
 {
     match window {
-        WindowInHand::Absent => led,
-        WindowInHand::Present(w) => {
-            if (w.block.bottom as u32) < row {
-                Place::Memory(w.block.link.from)
-            } else {
-                led
-            }
-        }
+        Some(w) if (w.block.bottom as u32) < row => Place::Memory(w.block.link.from),
+        _ => led,
     }
 }
 
@@ -140,20 +119,17 @@ fn blamed(led: Place, fault: Fault) -> Place
 fn of_window(number: u8) -> bool
     ensures { result ≡ eqb number 11 || eqb number 12 }
 {
-    (number == 11) | (number == 12)
+    matches!(number, 11 | 12)
 }
 
 // A row of a frame, without its cells: the state after it, or its refusal.
-fn walk_row(settings: Settings, mem: &[u16], state: State) -> RowWalk
+fn walk_row(settings: Settings, mem: &[u16], state: State) -> Result<State, Fault>
     ensures { result ≡ walked (run mem.now (row settings state)) }
 {
-    let fields = state.fields;
     let mut back = [0u16; 75];
     let mut window = [0u16; 75];
-    match plan::plan_row(mem, settings, fields, &mut back, &mut window) {
-        PlanAnswer::Refused(fault) => RowWalk::Refused(fault),
-        PlanAnswer::Planned(p) => walk_cells(settings, mem, state, p, &back, &window),
-    }
+    let p = plan::plan_row(mem, settings, state.fields, &mut back, &mut window)?;
+    walk_cells(settings, mem, state, p, &back, &window)
 }
 
 // The cells of a planned row, which are not kept.
@@ -164,35 +140,26 @@ fn walk_cells(
     p: PlanHead,
     back: &[u16; 75],
     window: &[u16; 75],
-) -> RowWalk
+) -> Result<State, Fault>
     requires { given p.words (plan_of settings.linear p back.now window.now) ≡ run mem.now (plan settings state.fields) }
     ensures { result ≡ walked (run mem.now (row settings state)) }
 {
-    let fill = state.fields.fill;
-    let overlay = p.overlay;
-    let count = p.count;
     let code = row::code_settings(settings);
     let mut cells = [0u32; 132];
-    match cells::draw_cells(
+    let drawn = cells::draw_cells(
         mem,
         code,
-        fill,
-        overlay,
+        state.fields.fill,
+        p.overlay,
         back,
-        count,
+        p.count,
         window,
         state.latch,
         p.words,
         &mut cells,
-    ) {
-        CellsDrawn::Refused(fault) => RowWalk::Refused(fault),
-        CellsDrawn::Accepted {
-            latch,
-            latched: _,
-            words: _,
-        } => {
-            let fields = p.next;
-            RowWalk::Next(State { latch, fields })
-        }
-    }
+    )?;
+    Ok(State {
+        latch: drawn.latch,
+        fields: p.next,
+    })
 }

@@ -1,4 +1,5 @@
 -- Segments are made of the first words of a list, five each; what reading them comes to.
+use Rattle.std.proofs.Common.{Result, Ok, Err}
 use mathlib.Core.Path.{◌≡◌, refl, ap, ap₂, sym, ◌∙◌}
 use mathlib.Core.List.{List, [], ◌∷◌, ◌++◌}
 use mathlib.Core.Bool.{Bool, true, false, ◌&&◌}
@@ -11,8 +12,6 @@ use lib.Seq.{drop-append-le, drop-drop, get_or-drop}
 use Rattle.memory.specs.Word.{when◌then◌else◌, bit, high, low, at}
 use Rattle.memory.specs.declared.Fault.{Fault}
 use Rattle.memory.specs.declared.Pointer.{Pointer}
-use Rattle.memory.specs.declared.WordsRead.{WordsRead}
-use Rattle.memory.specs.declared.WordsRead.TheVariants.{Whole, Refused}
 use Rattle.memory.specs.Reading.{Reading, done, ◌>>=◌, read_as, one_pointer, given, refused, run_from, run}
 use Rattle.memory.specs.Address.{nothing, pointer, ahead, further, words}
 use Rattle.memory.specs.Answers.{words_read}
@@ -21,8 +20,6 @@ use Rattle.memory.proofs.WordLaws.{read_whole, read-refused}
 use Rattle.memory.proofs.Roles.{run-as}
 use Rattle.memory.proofs.RunLaws.{ahead-add}
 use Rattle.blocks.specs.declared.SegmentCount.{SegmentCount}
-use Rattle.blocks.specs.declared.PointerRead.{PointerRead}
-use Rattle.blocks.specs.declared.PointerRead.TheVariants as Pointed
 use Rattle.blocks.specs.RowBlock.{RowBlock, segment_of, segments_at, segments_of, segment_roles, segments_from, rest_of_block}
 use Rattle.blocks.specs.Answers.{segment_in, segments_past, pointer_words, redefinition_pointer, pointer_read}
 
@@ -84,21 +81,21 @@ segment-none l a = rw (no_pointer l a, no_pointer l (ahead l 2 a))
 
 -- what `read_words` says, of n segments from word w of a block on: k words, of which there are more in the slice
 module _ (w : ℕ) (m : List ℕ) (l : Bool) (p : Pointer) (head : List ℕ) (re q : Pointer) (first : q ≡ further l w p) (n k : ℕ)
-    (count : n ≡ at head 2 % 16) (size : k ≡ 5 * n) (r : WordsRead) (ys zs : List ℕ) (e : words_read r ys ≡ run m (words l k q)) where
+    (count : n ≡ at head 2 % 16) (size : k ≡ 5 * n) (r : Result (Unit {0}) Fault) (ys zs : List ℕ) (e : words_read r ys ≡ run m (words l k q)) where
   five : k ≡ 5 * (at head 2 % 16)
   five = size ∙ ap (λ (i : ℕ). 5 * i) count
 
   asked : words_read r ys ≡ run m (words l (5 * (at head 2 % 16)) (further l w p))
   asked = e ∙ ap (λ (i : ℕ). run m (words l i q)) five ∙ ap (λ (s : Pointer). run m (words l (5 * (at head 2 % 16)) s)) first
 
-  pub segments-whole : (link : Pointer) → link ≡ pointer l p.address (at head 0) (at head 1) → r ≡ Whole → length ys ≡ k
+  pub segments-whole : (link : Pointer) → link ≡ pointer l p.address (at head 0) (at head 1) → r ≡ (Ok tt) → length ys ≡ k
       → given (w + 5 * n) (record { link = link; redefinition = re; segments = segments_at l q.address n (ys ++ zs) })
       ≡ run_from w m (segments_from l p head re w)
   segments-whole link o h len =
       rw (segments-prefix l q.address n ys zs (omega arith), o, count, first)
       (sym (step_given w m (read_as (segment_roles (at head 2 % 16)) (words l (5 * (at head 2 % 16)) (further l w p))) _ (run-as _ _ _ _ ∙ read_whole m l _ (further l w p) r ys asked h (len ∙ five)) ∙ run-done _ _ _))
 
-  pub segments-refused : (x : Fault) → r ≡ Refused x → refused x ≡ run_from w m (segments_from l p head re w)
+  pub segments-refused : (x : Fault) → r ≡ Err x → refused x ≡ run_from w m (segments_from l p head re w)
   segments-refused x h =
       sym (step-refused w m (read_as (segment_roles (at head 2 % 16)) (words l (5 * (at head 2 % 16)) (further l w p))) _ (run-as _ _ _ _ ∙ read-refused m l _ (further l w p) r ys asked h))
 
@@ -115,7 +112,7 @@ no-redefinition w m l p = ap (given w) (no_pointer l (ahead l 3 p.address))
 
 -- .. of the whole block, whose head was read
 module _ (m : List ℕ) (l redefines : Bool) (p : Pointer) (head : List ℕ) (read : run m (words l 3 p) ≡ given 3 head) (pointed : Bool)
-    (is : pointed ≡ redefines && bit 15 (at head 2)) (r : PointerRead)
+    (is : pointed ≡ redefines && bit 15 (at head 2)) (r : Result Pointer Fault)
     (e : pointer_read (pointer_words pointed) r ≡ run_from 3 m (redefinition_pointer l p (pointer_words pointed))) where
   abbrev whole : Reading RowBlock
   whole = read_as one_pointer (words l 3 p) >>= λ ws. rest_of_block l p ws (when redefines && bit 15 (at ws 2) then 2 else 0)
@@ -123,13 +120,13 @@ module _ (m : List ℕ) (l redefines : Bool) (p : Pointer) (head : List ℕ) (re
   by-pointer : run m whole ≡ run_from 3 m (redefinition_pointer l p (pointer_words pointed) >>= λ re. segments_from l p head re (3 + pointer_words pointed))
   by-pointer = step_given 0 m (read_as one_pointer (words l 3 p)) _ (run-as _ _ _ _ ∙ read) ∙ rw (sym is) (rest-of-block 3 m l p head (pointer_words pointed))
 
-  pub block_read : (re : Pointer) (w : ℕ) → r ≡ Pointed.Read re → w ≡ 3 + pointer_words pointed
+  pub block_read : (re : Pointer) (w : ℕ) → r ≡ Ok re → w ≡ 3 + pointer_words pointed
       → run_from w m (segments_from l p head re w) ≡ run m whole
   block_read re w h n =
       ap (λ (i : ℕ). run_from i m (segments_from l p head re i)) n
       ∙ sym (by-pointer ∙ bind-given 3 m (redefinition_pointer l p (pointer_words pointed)) _ (sym e ∙ ap (pointer_read (pointer_words pointed)) h))
 
-  pub block_refused : (x : Fault) → r ≡ Pointed.Refused x → refused x ≡ run m whole
+  pub block_refused : (x : Fault) → r ≡ Err x → refused x ≡ run m whole
   block_refused x h =
       sym (by-pointer ∙ bind-refused 3 m (redefinition_pointer l p (pointer_words pointed)) _ (sym e ∙ ap (pointer_read (pointer_words pointed)) h))
 

@@ -7,17 +7,17 @@ ghost use Rattle.blocks.specs.Main.{main_block, main_block_at};
 ghost use Rattle.blocks.specs.RowBlock.{segments_from, block_at, row_block_at, window_row_at, format_of, redefined};
 ghost use Rattle.blocks.specs.Answers.{main_read, block_read, format_read, segment_in, pointer_words, pointer_read, redefinition_pointer};
 
-use memory::{Fault, Pointer, WordsRead};
+use memory::{Fault, Pointer};
 
 // The absolute cursor's place.
-#[derive(Clone, Copy)]
+#[derive(Clone, Copy, PartialEq, Eq)]
 pub struct Cursor {
     pub x: u8,
     pub y: u8,
 }
 
 // The code of fill cells, and whether a fill run takes an attribute word first.
-#[derive(Clone, Copy)]
+#[derive(Clone, Copy, PartialEq, Eq)]
 pub struct FillMode {
     pub code: u8,
     pub flag: bool,
@@ -43,19 +43,12 @@ pub struct Segment {
 }
 
 // What a redefinition sets: scan lines, row attributes, CURS and CURE.
-#[derive(Clone, Copy)]
+#[derive(Clone, Copy, PartialEq, Eq)]
 pub struct RowFormat {
     pub lines: u8,
     pub attributes: u16,
     pub curs: u8,
     pub cure: u8,
-}
-
-// A main block, or the refusal of its reading.
-#[derive(Clone, Copy)]
-pub enum MainRead {
-    Read(MainBlock),
-    Refused(Fault),
 }
 
 // How many segments a block has, and the address of the first.
@@ -75,57 +68,49 @@ pub struct BlockHead {
     pub redefinition: Pointer,
 }
 
-// A row block or a window row block, or the refusal of its reading.
-#[derive(Clone, Copy)]
-pub enum BlockRead {
-    Read(BlockHead),
-    Refused(Fault),
-}
-
-// A block's redefinition pointer, or the refusal of its reading.
-#[derive(Clone, Copy)]
-enum PointerRead {
-    Read(Pointer),
-    Refused(Fault),
-}
-
 // The format of a row with the words read for it, or a refusal.
 #[derive(Clone, Copy)]
-pub enum FormatRead {
-    Read { format: RowFormat, words: u32 },
-    Refused(Fault),
+pub struct FormatRead {
+    pub format: RowFormat,
+    pub words: u32,
 }
 
 // The main block that a pointer leads to: 7 words.
-pub fn main_block(mem: &[u16], linear: bool, p: Pointer) -> MainRead
+pub fn main_block(mem: &[u16], linear: bool, p: Pointer) -> Result<MainBlock, Fault>
     ensures { main_read result ≡ run mem.now (main_block_at linear p) }
 {
     let mut b = [0u16; 7];
-    match memory::read_words(mem, linear, p, &mut b) {
-        WordsRead::Whole => MainRead::Read(main_block_of(linear, p.address, &b)),
-        WordsRead::Refused(fault) => MainRead::Refused(fault),
-    }
+    memory::read_words(mem, linear, p, &mut b)?;
+    Ok(main_block_of(linear, p.address, &b))
 }
 
 // What the redefinition that a pointer leads to makes of a format; nothing where the pointer is null.
-pub fn redefinition(mem: &[u16], linear: bool, p: Pointer, format: RowFormat) -> FormatRead
+pub fn redefinition(
+    mem: &[u16],
+    linear: bool,
+    p: Pointer,
+    format: RowFormat,
+) -> Result<FormatRead, Fault>
     ensures { format_read result ≡ run mem.now (redefined linear p format) }
 {
     if p.address == 0 {
-        return FormatRead::Read { format, words: 0 };
+        return Ok(FormatRead { format, words: 0 });
     }
     let mut b = [0u16; 3];
-    match memory::read_words(mem, linear, p, &mut b) {
-        WordsRead::Whole => FormatRead::Read {
-            format: format_of(&b),
-            words: 3,
-        },
-        WordsRead::Refused(fault) => FormatRead::Refused(fault),
-    }
+    memory::read_words(mem, linear, p, &mut b)?;
+    Ok(FormatRead {
+        format: format_of(&b),
+        words: 3,
+    })
 }
 
 // The row block that a pointer leads to, with the words of its segments in `segments`.
-pub fn row_block(mem: &[u16], linear: bool, p: Pointer, segments: &mut [u16; 75]) -> BlockRead
+pub fn row_block(
+    mem: &[u16],
+    linear: bool,
+    p: Pointer,
+    segments: &mut [u16; 75],
+) -> Result<BlockHead, Fault>
     ensures { block_read linear result segments.new ≡ run mem.now (row_block_at linear p) }
 {
     block_at(mem, linear, true, p, segments)
@@ -137,7 +122,7 @@ pub fn window_row_block(
     linear: bool,
     p: Pointer,
     segments: &mut [u16; 75],
-) -> BlockRead
+) -> Result<BlockHead, Fault>
     ensures { block_read linear result segments.new ≡ run mem.now (window_row_at linear p) }
 {
     block_at(mem, linear, false, p, segments)
@@ -189,37 +174,25 @@ fn block_at(
     redefines: bool,
     p: Pointer,
     segments: &mut [u16],
-) -> BlockRead
+) -> Result<BlockHead, Fault>
     requires { length segments.old ≡ 75 }
     ensures { block_read linear result segments.new ≡ run mem.now (block_at linear redefines p) }
 {
-    let null = Pointer {
-        address: 0,
-        from: 0,
-    };
     if p.address == 0 {
         let count = SegmentCount { number: 0, at: 0 };
-        return BlockRead::Read(BlockHead {
-            link: null,
-            redefinition: null,
+        return Ok(BlockHead {
+            link: Pointer::NULL,
+            redefinition: Pointer::NULL,
             count,
             words: 0,
         });
     }
     let mut head = [0u16; 3];
-    match memory::read_words(mem, linear, p, &mut head) {
-        WordsRead::Whole => {
-            let pointed = is_pointed(redefines, head[2]);
-            match redefinition_pointer(mem, linear, pointed, p) {
-                PointerRead::Read(redefinition) => {
-                    let words = words_before(pointed);
-                    segments_from(mem, linear, p, &head, redefinition, words, segments)
-                }
-                PointerRead::Refused(fault) => BlockRead::Refused(fault),
-            }
-        }
-        WordsRead::Refused(fault) => BlockRead::Refused(fault),
-    }
+    memory::read_words(mem, linear, p, &mut head)?;
+    let pointed = is_pointed(redefines, head[2]);
+    let redefinition = redefinition_pointer(mem, linear, pointed, p)?;
+    let words = words_before(pointed);
+    segments_from(mem, linear, p, &head, redefinition, words, segments)
 }
 
 // Does a redefinition pointer follow a block's third word?
@@ -237,23 +210,21 @@ fn words_before(pointed: bool) -> u32
 }
 
 // The redefinition pointer of the block at `p`, of which three words have been read; null where it has none.
-fn redefinition_pointer(mem: &[u16], linear: bool, pointed: bool, p: Pointer) -> PointerRead
+fn redefinition_pointer(
+    mem: &[u16],
+    linear: bool,
+    pointed: bool,
+    p: Pointer,
+) -> Result<Pointer, Fault>
     ensures { pointer_read (pointer_words pointed) result ≡ run_from 3 mem.now (redefinition_pointer linear p (pointer_words pointed)) }
 {
     if pointed {
         let mut re = [0u16; 2];
         let at = memory::further(linear, 3, p);
-        match memory::read_words(mem, linear, at, &mut re) {
-            WordsRead::Whole => PointerRead::Read(memory::pointer_of(
-                linear, at.address, re[0], re[1],
-            )),
-            WordsRead::Refused(fault) => PointerRead::Refused(fault),
-        }
+        memory::read_words(mem, linear, at, &mut re)?;
+        Ok(memory::pointer_of(linear, at.address, re[0], re[1]))
     } else {
-        PointerRead::Read(Pointer {
-            address: 0,
-            from: 0,
-        })
+        Ok(Pointer::NULL)
     }
 }
 
@@ -266,28 +237,24 @@ fn segments_from(
     redefinition: Pointer,
     words: u32,
     segments: &mut [u16],
-) -> BlockRead
+) -> Result<BlockHead, Fault>
     requires { (length segments.old ≡ 75) × (words ≤ 5) }
     ensures { block_read linear result segments.new ≡ run_from words mem.now (segments_from linear p head.now redefinition words) }
 {
     let number = segment_count(head[2]);
     let n = 5 * number as usize;
     let first = memory::further(linear, words, p);
-    match memory::read_many(mem, linear, first, &mut segments[..n]) {
-        WordsRead::Whole => {
-            let count = SegmentCount {
-                number,
-                at: first.address,
-            };
-            BlockRead::Read(BlockHead {
-                link: memory::pointer_of(linear, p.address, head[0], head[1]),
-                redefinition,
-                count,
-                words: words + 5 * number as u32,
-            })
-        }
-        WordsRead::Refused(fault) => BlockRead::Refused(fault),
-    }
+    memory::read_many(mem, linear, first, &mut segments[..n])?;
+    let count = SegmentCount {
+        number,
+        at: first.address,
+    };
+    Ok(BlockHead {
+        link: memory::pointer_of(linear, p.address, head[0], head[1]),
+        redefinition,
+        count,
+        words: words + 5 * number as u32,
+    })
 }
 
 // As `segment_at`, of a slice of 75 words.
@@ -306,13 +273,9 @@ fn segment_in(linear: bool, count: SegmentCount, words: &[u16], i: usize) -> Seg
             visible: memory::low_byte(words[k + 4]),
         }
     } else {
-        let null = Pointer {
-            address: 0,
-            from: 0,
-        };
         Segment {
-            codes: null,
-            attributes: null,
+            codes: Pointer::NULL,
+            attributes: Pointer::NULL,
             length: 0,
             visible: 0,
         }

@@ -1,11 +1,11 @@
 -- Document 02 §10, "How much of the bus a screen takes": what a row takes, and the running totals.
-use Rattle.std.specs.Prelude.{ℕ, ◌+◌, ◌-◌, ◌*◌, ◌/◌, ◌^◌, Bool, true, false, ◌&&◌, ◌||◌, not, ltb, eqb}
+use Rattle.std.specs.Prelude.{ℕ, ◌+◌, ◌-◌, ◌*◌, ◌/◌, ◌^◌, Bool, ◌&&◌, ltb, leb, eqb, Option, Some, None, unwrap_or, Ok, Err}
 use Rattle.memory.specs.Word.{when◌then◌else◌, high, low}
 use Rattle.memory.specs.declared.Refusal.{Refusal}
 use Rattle.bus.specs.declared.BusRow.{BusRow}
 use Rattle.bus.specs.declared.Figures.{Figures}
+use Rattle.bus.specs.declared.LargestRow.{LargestRow}
 use Rattle.bus.specs.declared.Totals.{Totals}
-use Rattle.bus.specs.declared.BusAnswer.TheVariants.{Counted, Refused}
 use Rattle.bus.specs.declared.Reported.{Reported}
 
 -- the burst register: the space in its high byte, the count in its low one
@@ -32,24 +32,30 @@ released burst words = 15 * (burst_space burst * gaps burst words)
 abbrev pub figures : BusRow → Figures
 figures h = record { bursts = bursts h.burst h.words; released = released h.burst h.words }
 
--- the totals before any row: "0 and 0 while none"
+-- the totals before any row
 unfoldable pub none : Totals
-none = record { words = 0; bursts = 0; released = 0; largest = 0; screen = 0; row = 0; any = false }
+none = record { words = 0; bursts = 0; released = 0; largest = None }
+
+-- a row as the largest: "with screen and row, as handed in, of the largest word count"
+abbrev pub as_largest : BusRow → LargestRow
+as_largest h = record { words = h.words; screen = h.screen; row = h.row }
 
 -- "of the largest word count, the first if several": a later row has to have more words
-abbrev pub larger : Totals → BusRow → Bool
-larger t h = not t.any || ltb t.largest h.words
+abbrev pub larger : Option LargestRow → BusRow → LargestRow
+larger None h = as_largest h
+larger (Some l) h = when leb h.words l.words then l else as_largest h
 
--- "per row and summed, with screen and row, as handed in, of the largest word count"
+-- the largest as it is told: "0 and 0 while none"
+abbrev pub told : Option LargestRow → LargestRow
+told largest = unwrap_or largest (record { words = 0; screen = 0; row = 0 })
+
+-- "per row and summed"
 unfoldable pub added : Totals → BusRow → Totals
 added t h = record {
   words = t.words + h.words;
   bursts = t.bursts + (figures h).bursts;
   released = t.released + (figures h).released;
-  largest = when larger t h then h.words else t.largest;
-  screen = when larger t h then h.screen else t.screen;
-  row = when larger t h then h.row else t.row;
-  any = true;
+  largest = Some (larger t.largest h);
 }
 
 -- "Sums in 64 bits."
@@ -64,12 +70,12 @@ abbrev pub refusal : ℕ → Refusal
 refusal n = record { number = n; row = 0; address = 0; from = 0 }
 
 abbrev pub refuse : ℕ → Totals → Reported
-refuse n t = record { totals = t; answer = Refused (refusal n) }
+refuse n t = record { totals = t; answer = Err (refusal n) }
 
 -- "The running totals are one record, brought up to date where it stands after each row."; "Refusals: 20, burst count 0; 21, a total
 -- that would not fit, totals unchanged."
 unfoldable pub reported : Totals → BusRow → Reported
 reported t h =
     when eqb (burst_count h.burst) 0 then refuse 20 t
-    else when all_fit (added t h) then record { totals = added t h; answer = Counted (figures h) }
+    else when all_fit (added t h) then record { totals = added t h; answer = Ok (figures h) }
     else refuse 21 t

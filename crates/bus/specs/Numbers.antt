@@ -1,11 +1,12 @@
 -- The totals and a row's figures as numbers at fixed places of lent slices, and what a row's report leaves there.
-use Rattle.std.specs.Prelude.{ℕ, List, [], ◌∷◌, eqb}
+use Rattle.std.specs.Prelude.{ℕ, List, [], ◌∷◌, eqb, Some, None, is_some, Result, Ok, Err}
 use Rattle.memory.specs.Word.{when◌then◌else◌, at}
+use Rattle.memory.specs.declared.Refusal.{Refusal}
 use Rattle.bus.specs.declared.Figures.{Figures}
+use Rattle.bus.specs.declared.LargestRow.{LargestRow}
 use Rattle.bus.specs.declared.Totals.{Totals}
-use Rattle.bus.specs.declared.BusAnswer.{BusAnswer}
-use Rattle.bus.specs.declared.BusAnswer.TheVariants.{Counted, Refused}
 use Rattle.bus.specs.declared.Reported.{Reported}
+use Rattle.bus.specs.Bus.{told}
 
 -- the totals; the last place says whether a row was handed in
 unfoldable pub totals_at : List ℕ → Totals
@@ -13,15 +14,13 @@ totals_at xs = record {
   words = at xs 0;
   bursts = at xs 1;
   released = at xs 2;
-  largest = at xs 3;
-  screen = at xs 4;
-  row = at xs 5;
-  any = eqb (at xs 6) 1;
+  largest = when eqb (at xs 6) 1 then Some (record { words = at xs 3; screen = at xs 4; row = at xs 5 }) else None;
 }
 
 unfoldable pub totals_numbers : Totals → List ℕ
 totals_numbers t =
-    t.words ∷ t.bursts ∷ t.released ∷ t.largest ∷ t.screen ∷ t.row ∷ (when t.any then 1 else 0) ∷ []
+    let largest : LargestRow = told t.largest in
+    t.words ∷ t.bursts ∷ t.released ∷ largest.words ∷ largest.screen ∷ largest.row ∷ (when is_some t.largest then 1 else 0) ∷ []
 
 -- a row's bursts and its least released time
 abbrev pub figures_numbers : Figures → List ℕ
@@ -37,9 +36,9 @@ abbrev pub called : ℕ → List ℕ → List ℕ → Called
 called status totals answer = record { status = status; totals = totals; answer = answer }
 
 -- a refusal, whose row and address are 0, writes nothing
-abbrev pub after_answer : List ℕ → List ℕ → Totals → BusAnswer → Called
-after_answer totals answer t (Counted f) = called 0 (totals_numbers t) (figures_numbers f)
-after_answer totals answer t (Refused r) = called r.number totals answer
+abbrev pub after_answer : List ℕ → List ℕ → Totals → Result Figures Refusal → Called
+after_answer totals answer t (Ok f) = called 0 (totals_numbers t) (figures_numbers f)
+after_answer totals answer t (Err r) = called r.number totals answer
 
 abbrev pub after_bus : List ℕ → List ℕ → Reported → Called
 after_bus totals answer r = after_answer totals answer r.totals r.answer

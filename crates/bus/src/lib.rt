@@ -1,8 +1,7 @@
 #![tactic(auto)]
 // How much of the bus a screen takes: a row's bursts and its least released time, and the running totals of the rows handed in.
 ghost use Rattle.std.specs.Prelude.{◌≡◌, true, ◌+◌, ◌-◌, ◌*◌, ◌<◌, ◌≤◌};
-ghost use Rattle.memory.specs.Word.{when◌then◌else◌};
-ghost use Rattle.bus.specs.Bus.{burst_space, burst_count, bursts, figures, none, added, fits, all_fit, refuse, reported};
+ghost use Rattle.bus.specs.Bus.{burst_space, burst_count, bursts, figures, none, told, larger, added, fits, all_fit, refuse, reported};
 
 use memory::Refusal;
 
@@ -24,34 +23,32 @@ pub struct Figures {
     pub released: u64,
 }
 
-// The running totals: the sums over the rows, the largest word count with its screen and row, and whether a row was handed in.
+// The largest word count, with the screen and row as they were handed in.
+#[derive(Clone, Copy)]
+pub struct LargestRow {
+    pub words: u64,
+    pub screen: u64,
+    pub row: u64,
+}
+
+// The running totals: the sums over the rows, and the largest row once there is one.
 #[derive(Clone, Copy)]
 pub struct Totals {
     pub words: u64,
     pub bursts: u64,
     pub released: u64,
-    pub largest: u64,
-    pub screen: u64,
-    pub row: u64,
-    pub any: bool,
-}
-
-// A row's figures, or its refusal: 20, burst count 0; 21, a total that would not fit.
-#[derive(Clone, Copy)]
-pub enum BusAnswer {
-    Counted(Figures),
-    Refused(Refusal),
+    pub largest: Option<LargestRow>,
 }
 
 // The totals after a row, and the row's answer.
 #[derive(Clone, Copy)]
 pub struct Reported {
     pub totals: Totals,
-    pub answer: BusAnswer,
+    pub answer: Result<Figures, Refusal>,
 }
 
 // A row's answer. Unless it is refused, the totals are brought up to date where they stand.
-pub fn report(totals: &mut Totals, row: BusRow) -> BusAnswer
+pub fn report(totals: &mut Totals, row: BusRow) -> Result<Figures, Refusal>
     ensures { record { totals = totals.new; answer = result } ≡ reported totals.old row }
 {
     let r = count_row(*totals, row);
@@ -85,11 +82,12 @@ fn count_row(totals: Totals, row: BusRow) -> Reported
     let after = with_row(totals, row, f);
     Reported {
         totals: after,
-        answer: BusAnswer::Counted(f),
+        answer: Ok(f),
     }
 }
 
 // The totals before any row.
+#[tactic(auto, unfolding(crate::specs::Bus::none))]
 pub fn none() -> Totals
     ensures { result ≡ none }
 {
@@ -97,30 +95,33 @@ pub fn none() -> Totals
         words: 0,
         bursts: 0,
         released: 0,
-        largest: 0,
+        largest: None,
+    }
+}
+
+// The largest row as it is told: 0, 0 and 0 while there is none.
+pub fn largest_told(totals: Totals) -> LargestRow
+    ensures { result ≡ told totals.largest }
+{
+    totals.largest.unwrap_or(LargestRow {
+        words: 0,
         screen: 0,
         row: 0,
-        any: false,
-    }
+    })
 }
 
 // A refusal, with the totals unchanged.
 fn refused(totals: Totals, number: u8) -> Reported
     ensures { result ≡ refuse number totals }
 {
-    let refusal = Refusal {
-        number,
-        row: 0,
-        address: 0,
-        from: 0,
-    };
     Reported {
         totals,
-        answer: BusAnswer::Refused(refusal),
+        answer: memory::refused(number),
     }
 }
 
 // The figures of a row.
+#[tactic(auto, unfolding(crate::specs::Bus::released))]
 fn figures_of(row: BusRow) -> Figures
     requires { 0 < burst_count row.burst }
     ensures { result ≡ figures row }
@@ -152,11 +153,12 @@ fn released(burst: u16, bursts: u64) -> u64
     requires { bursts ≤ 4294967551 }
     ensures { result ≡ 15 * (burst_space burst * (bursts - 1)) }
 {
-    let gaps = if bursts == 0 { 0 } else { bursts - 1 };
+    let gaps = bursts.saturating_sub(1);
     15 * ((burst / 256) as u64 * gaps)
 }
 
 // Do all three totals fit with the row added?
+#[tactic(auto, unfolding(crate::specs::Bus::added))]
 fn all_fit(t: Totals, row: BusRow, f: Figures) -> bool
     requires { f ≡ figures row }
     ensures { result ≡ all_fit (added t row) }
@@ -171,7 +173,7 @@ fn all_fit(t: Totals, row: BusRow, f: Figures) -> bool
 fn fits(a: u64, b: u64) -> bool
     ensures { result ≡ fits (a + b) }
 {
-    b <= 18446744073709551615 - a
+    b <= u64::MAX - a
 }
 
 // The totals with a row added.
@@ -179,21 +181,25 @@ fn with_row(t: Totals, row: BusRow, f: Figures) -> Totals
     requires { (f ≡ figures row) × (all_fit (added t row) ≡ true) }
     ensures { result ≡ added t row }
 {
-    let words = row.words as u64;
-    let new = !t.any | (t.largest < words);
     Totals {
-        words: t.words + words,
+        words: t.words + row.words as u64,
         bursts: t.bursts + f.bursts,
         released: t.released + f.released,
-        largest: pick(new, words, t.largest),
-        screen: pick(new, row.screen as u64, t.screen),
-        row: pick(new, row.row as u64, t.row),
-        any: true,
+        largest: Some(larger(t.largest, row)),
     }
 }
 
-fn pick(test: bool, a: u64, b: u64) -> u64
-    ensures { result ≡ (when test then a else b) }
+// The largest row with one more handed in: of several the first.
+fn larger(largest: Option<LargestRow>, row: BusRow) -> LargestRow
+    ensures { result ≡ larger largest row }
 {
-    if test { a } else { b }
+    let words = row.words as u64;
+    match largest {
+        Some(l) if words <= l.words => l,
+        _ => LargestRow {
+            words,
+            screen: row.screen as u64,
+            row: row.row as u64,
+        },
+    }
 }

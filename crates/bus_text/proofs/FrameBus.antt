@@ -1,16 +1,16 @@
 -- A frame's own figures: the words of its start go with row 0, so that the words of the rows handed in are the frame's; with a burst count
 -- they are all accepted, and the report has the frame's words as its total.
+use Rattle.std.proofs.Common.{Result, Ok, Err}
 use mathlib.Core.Path.{◌≡◌, refl, sym, ap, ◌∙◌}
 use mathlib.Core.List.{List, [], ◌∷◌}
 use Prim.Native.Nat.{ℕ, ◌+◌, ◌*◌, ◌<◌, ◌≤◌}
 use native.Mathlib.Omega.{arith}
 use lib.ListN.{length}
 use Rattle.memory.proofs.ReadBounds.{Words}
+use Rattle.memory.specs.declared.Refusal.{Refusal}
 use Rattle.settings.specs.declared.Settings.{Settings}
 use Rattle.frame.specs.Step.{begin}
 use Rattle.frame.specs.declared.Progress.{Progress}
-use Rattle.frame.specs.declared.BeginAnswer.{BeginAnswer}
-use Rattle.frame.specs.declared.BeginAnswer.TheVariants as Begin
 use Rattle.frame.specs.Frame.{FrameRow, rest, frame, row_words}
 use Rattle.frame.proofs.Frames.{induction, rest-rows, rest-words}
 use Rattle.frame.proofs.Calls.{started-made}
@@ -53,13 +53,13 @@ rows_bound σ m w =
 
 -- a frame with a row, and so with a start that is accepted
 module _ (latch : ℕ) (σ : Settings) (m : List ℕ) (w : Words m) (drawn : 0 < length (frame latch σ m).rows) where
-  begun : (x : BeginAnswer) → begin latch σ m ≡ x → ((frame latch σ m).words ≡ start_words x + row_words (frame latch σ m).rows) × ((frame latch σ m).words ≤ 49152000)
+  begun : (x : Result Progress Refusal) → begin latch σ m ≡ x → ((frame latch σ m).words ≡ start_words x + row_words (frame latch σ m).rows) × ((frame latch σ m).words ≤ 49152000)
   unfolding frame
-  begun (Begin.Begun p) e =
+  begun (Ok p) e =
       let k = started-made σ m w latch e in
       let n = (rest-rows σ m w p).1 in
       rw e (rest-words σ m w p, omega (arith, k.0, k.1, n, rest-words σ m w p, rows_bound σ m w p))
-  begun (Begin.Refused r) e = absurd (none-drawn (rw e at drawn))
+  begun (Err r) e = absurd (none-drawn (rw e at drawn))
     where
       none-drawn : 0 < 0 → ⊥
       none-drawn h = omega arith

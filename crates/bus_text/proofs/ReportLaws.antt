@@ -1,7 +1,8 @@
 -- The text of a report, from a frame's start and by each answer of a step.
+use Rattle.std.proofs.Common.{Ok, Err}
 use mathlib.Core.Path.{◌≡◌, sym, ap, subst, ◌∙◌}
-use mathlib.Core.List.{List, ◌++◌, append_assoc, append-nil}
-use Prim.Native.Nat.{ℕ, ◌<◌, ◌≤◌}
+use mathlib.Core.List.{List, ◌++◌, append_assoc}
+use Prim.Native.Nat.{ℕ, ◌≤◌}
 use native.Mathlib.Omega.{arith}
 use lib.ListN.{length}
 use Rattle.memory.specs.declared.Refusal.{Refusal}
@@ -9,7 +10,6 @@ use Rattle.memory.proofs.ReadBounds.{Words}
 use Rattle.settings.specs.declared.Settings.{Settings}
 use Rattle.row.specs.declared.DrawnRow.{DrawnRow}
 use Rattle.frame.specs.declared.Progress.{Progress}
-use Rattle.frame.specs.declared.BeginAnswer.TheVariants as Begin
 use Rattle.frame.specs.declared.StepAnswer.{StepAnswer}
 use Rattle.frame.specs.declared.StepAnswer.TheVariants as Step
 use Rattle.frame.specs.Step.{Stepped, stepped, begin, step, in_bound}
@@ -20,13 +20,12 @@ use Rattle.frame.proofs.Frames.{next-step}
 use Rattle.frame.proofs.Calls.{in-bound, made-next, started-made}
 use Rattle.bus.specs.Bus.{reported}
 use Rattle.bus.specs.Bus as Bus
-use Rattle.lines.specs.Lines.{text, Line, refusal_line}
-use Rattle.bus_text.specs.declared.Text.{Text}
-use Rattle.bus_text.specs.declared.Text.TheVariants.{Rows, Ended}
+use Rattle.lines.specs.Lines.{text, refusal_line}
+use Rattle.bus_text.specs.declared.Text.TheVariants.{Rows}
 use Rattle.bus_text.specs.declared.Reporting.{Reporting}
 use Rattle.bus_text.specs.BusLines.{total_line, largest_line}
 use Rattle.bus_text.specs.FrameReport.{one_screen, bus_row, bus_rows, by_answer, rows_text, frame_text}
-use Rattle.bus_text.specs.ToCome.{from_row, to_come, calls, Writes, advanced}
+use Rattle.bus_text.specs.ToCome.{from_row, to_come, advanced}
 
 -- the two last lines, written as one
 regroup : (line end name d s e r f last : List ℕ) → line ++ (end ++ name) ++ d ++ s ++ e ++ r ++ f ++ last ≡ (line ++ end) ++ (name ++ d ++ s ++ e ++ r ++ f ++ last)
@@ -36,17 +35,6 @@ pub two-lines : (line d e f : List ℕ)
     → line ++ text "\nlargest: words " ++ d ++ text ", screen " ++ e ++ text ", row " ++ f ++ text "\n"
     ≡ (line ++ text "\n") ++ (text "largest: words " ++ d ++ text ", screen " ++ e ++ text ", row " ++ f ++ text "\n")
 two-lines line d e f = regroup line (text "\n") (text "largest: words ") d (text ", screen ") e (text ", row ") f (text "\n")
-
--- a line, with a text that begins with it
-pub with-line : (m whole : List ℕ) (bound : ℕ) (u : Text) {line : List ℕ} (n : ℕ) (buffer : List ℕ) → Line line n buffer → line ++ to_come m u ≡ whole
-    → calls u < bound → Writes m whole bound n u buffer
-with-line m whole bound u n buffer l e f = record { within = l.0; sized = l.1; lines = ap (λ (x : List ℕ). x ++ to_come m u) l.2 ∙ e; fewer = f }
-
--- the last line
-pub last_line : (m whole : List ℕ) (bound : ℕ) {line : List ℕ} (n : ℕ) (buffer : List ℕ) → Line line n buffer → line ≡ whole
-    → 0 < bound → Writes m whole bound n Ended buffer
-unfolding to_come
-last_line m whole bound {line} n buffer l e f = with-line m whole bound Ended n buffer l (append-nil line ∙ e) f
 
 -- a step of the frame in progress of the report p, with a right row buffer b
 module _ (p : Reporting) (m : List ℕ) (w : Words m) (b : List ℕ) (l : length b ≡ 132) where
@@ -81,15 +69,15 @@ module _ (p : Reporting) (m : List ℕ) (w : Words m) (b : List ℕ) (l : length
 
 -- from a start
 module _ (σ : Settings) (m : List ℕ) (w : Words m) where
-  pub begun-small : {p : Progress} → begin 0 σ m ≡ Begin.Begun p → p.words ≤ 12000
+  pub begun-small : {p : Progress} → begin 0 σ m ≡ Ok p → p.words ≤ 12000
   begun-small e = let k = started-made σ m w 0 e in omega arith
 
   module _ (burst : ℕ) where
-    pub begun-text : {p : Progress} → begin 0 σ m ≡ Begin.Begun p
+    pub begun-text : {p : Progress} → begin 0 σ m ≡ Ok p
         → to_come m (Rows (record { settings = σ; burst = burst; before = p.words; totals = Bus.none; progress = p })) ≡ frame_text burst σ m
     unfolding to_come frame_text frame
     begun-text {p} e = rw (e, in-bound p (started-made σ m w 0 e).1)
 
-    pub refused-text : {r : Refusal} → begin 0 σ m ≡ Begin.Refused r → refusal_line r ≡ frame_text burst σ m
+    pub refused-text : {r : Refusal} → begin 0 σ m ≡ Err r → refusal_line r ≡ frame_text burst σ m
     unfolding frame_text rows_text bus_rows frame
     refused-text e = rw e

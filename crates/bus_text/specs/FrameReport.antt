@@ -1,20 +1,18 @@
 -- Document 02 §10 of a frame: the rows that it hands in, and the text of their report.
-use Rattle.std.specs.Prelude.{ℕ, ◌+◌, List, [], ◌∷◌, ◌++◌, get_or}
+use Rattle.std.specs.Prelude.{ℕ, ◌+◌, List, [], ◌∷◌, ◌++◌, get_or, Result, Ok, Err}
 use Rattle.std.proofs.Math.Option.{Option, none, some}
 use Rattle.memory.specs.declared.Refusal.{Refusal}
 use Rattle.settings.specs.declared.Settings.{Settings}
-use Rattle.frame.specs.declared.BeginAnswer.{BeginAnswer}
-use Rattle.frame.specs.declared.BeginAnswer.TheVariants as Begin
 use Rattle.frame.specs.Step.{begin}
 use Rattle.frame.specs.Frame.{FrameRow, frame}
 use Rattle.bus.specs.declared.BusRow.{BusRow}
 use Rattle.bus.specs.declared.Totals.{Totals}
-use Rattle.bus.specs.declared.BusAnswer.{BusAnswer}
-use Rattle.bus.specs.declared.BusAnswer.TheVariants.{Counted, Refused}
 use Rattle.bus.specs.Bus.{reported}
 use Rattle.bus.specs.Bus as Bus
+use Rattle.bus.specs.declared.Figures.{Figures}
 use Rattle.lines.specs.Lines.{refusal_line, script_line}
 use Rattle.script.specs.Script.{Outcome, drawn, refused_at, script}
+use Rattle.frame.specs.declared.Progress.{Progress}
 use Rattle.image.specs.Registers.{registers_of}
 use Rattle.bus_text.specs.BusLines.{row_line, total_line, largest_line}
 
@@ -32,9 +30,9 @@ bus_rows burst screen before [] = []
 bus_rows burst screen before (r ∷ rs) = bus_row burst screen before r ∷ bus_rows burst screen 0 rs
 
 -- the words of a start
-abbrev pub start_words : BeginAnswer → ℕ
-start_words (Begin.Begun p) = p.words
-start_words (Begin.Refused r) = 0
+abbrev pub start_words : Result Progress Refusal → ℕ
+start_words (Ok p) = p.words
+start_words (Err r) = 0
 
 -- the rows of a frame, with its own figures
 abbrev pub frame_bus : ℕ → ℕ → ℕ → Settings → List ℕ → List BusRow
@@ -46,9 +44,9 @@ last_lines none t = total_line t ++ largest_line t
 last_lines (some r) t = refusal_line r
 
 -- a row's line and the text after it; a refusal of the report ends the text
-abbrev pub by_answer : BusRow → List ℕ → BusAnswer → List ℕ
-by_answer h more (Counted f) = row_line h f ++ more
-by_answer h more (Refused r) = refusal_line r
+abbrev pub by_answer : BusRow → List ℕ → Result Figures Refusal → List ℕ
+by_answer h more (Ok f) = row_line h f ++ more
+by_answer h more (Err r) = refusal_line r
 
 unfoldable pub rows_text : Option Refusal → Totals → List BusRow → List ℕ
 rows_text end t [] = last_lines end t

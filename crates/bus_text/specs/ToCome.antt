@@ -1,5 +1,5 @@
 -- What of a text is still to come, and what a call for its next lines gives. No rules of their own.
-use Rattle.std.specs.Prelude.{ℕ, ◌+◌, ◌<◌, ◌≤◌, ◌≡◌, List, [], ◌++◌, length, take}
+use Rattle.std.specs.Prelude.{ℕ, ◌+◌, List, [], Option}
 use Rattle.bus.specs.declared.BusRow.{BusRow}
 use Rattle.bus.specs.declared.Totals.{Totals}
 use Rattle.bus.specs.declared.Reported.{Reported}
@@ -7,10 +7,10 @@ use Rattle.frame.specs.declared.Progress.{Progress}
 use Rattle.frame.specs.Step.{in_bound}
 use Rattle.frame.specs.Frame.{rest}
 use Rattle.lines.specs.Lines.{refusal_line, script_line}
+use Rattle.lines.specs.declared.Piece.{Piece}
+use Rattle.lines.specs.Pieces as Pieces
 use Rattle.bus_text.specs.declared.Text.{Text}
 use Rattle.bus_text.specs.declared.Text.TheVariants.{Rows, Refused, NoScript, Ended}
-use Rattle.bus_text.specs.declared.TextLines.{TextLines}
-use Rattle.bus_text.specs.declared.TextLines.TheVariants as Lines
 use Rattle.bus_text.specs.declared.Reporting.{Reporting}
 use Rattle.bus_text.specs.FrameReport.{one_screen, bus_rows, by_answer, rows_text}
 
@@ -33,26 +33,17 @@ calls (Refused r) = 1
 calls (NoScript n) = 1
 calls Ended = 0
 
--- n bytes that were written at the start of a buffer, then the text u, are a whole text; fewer calls are left than a bound. What the
--- buffer's bytes past these are is left free.
-pub record Writes (m whole : List ℕ) (bound n : ℕ) (u : Text) (buffer : List ℕ) : Type 0 where
-  pub within : n ≤ length buffer
-  pub sized : n ≡ length (take n buffer)
-  pub lines : take n buffer ++ to_come m u ≡ whole
-  pub fewer : calls u < bound
+-- a call gives the next lines of a whole text, or says that it is at its end; fewer calls are left than a bound
+abbrev pub Gives : (memory whole : List ℕ) (bound : ℕ) → Option (Piece Text) → (buffer : List ℕ) → Type 0
+Gives m = Pieces.Gives (to_come m) calls
 
--- a call gives the next lines of a whole text, or says that it is at its end
-abbrev pub Gives : List ℕ → List ℕ → ℕ → TextLines → List ℕ → Type 0
-Gives m whole bound (Lines.Written n u) buffer = Writes m whole bound n u buffer
-Gives m whole bound Lines.AtEnd buffer = whole ≡ []
-
-abbrev pub Next : List ℕ → Text → TextLines → List ℕ → Type 0
-Next m t x buffer = Gives m (to_come m t) (calls t) x buffer
+abbrev pub Next : (memory : List ℕ) → Text → Option (Piece Text) → (buffer : List ℕ) → Type 0
+Next m = Pieces.Next (to_come m) calls
 
 -- the report of a frame in progress after a row
 abbrev pub advanced : Reporting → Progress → Totals → Reporting
 advanced p q t = record { settings = p.settings; burst = p.burst; before = 0; totals = t; progress = q }
 
 -- the text from a row that is handed in, whatever memory the rows after it are drawn from
-abbrev pub RowNext : Reporting → Progress → BusRow → Reported → TextLines → List ℕ → Type 0
+abbrev pub RowNext : Reporting → Progress → BusRow → Reported → Option (Piece Text) → List ℕ → Type 0
 RowNext p q h r x buffer = (m : List ℕ) → Gives m (by_answer h (from_row m (advanced p q r.totals)) r.answer) (calls (Rows p)) x buffer

@@ -3,11 +3,12 @@
 ghost use Rattle.std.specs.Prelude.{◌≡◌, ◌+◌, ◌<◌};
 ghost use Rattle.script.specs.Feeding.{stepped, outcome};
 ghost use Rattle.bus_text.specs.FrameReport.{one_screen, frame_text, outcome_text};
-ghost use Rattle.bus_text.specs.ToCome.{to_come, Next, RowNext};
+ghost use Rattle.bus_text.specs.ToCome.{to_come, calls, Next, RowNext};
 ghost use Rattle.bus_text.specs.declared.Text.TheVariants.{Rows};
 
-use bus::{BusAnswer, BusRow, Reported, Totals};
-use frame::{BeginAnswer, Progress, StepAnswer};
+use bus::{BusRow, Reported, Totals};
+use frame::{Progress, StepAnswer};
+use lines::{Piece, Pieces};
 use memory::Refusal;
 use script::Step;
 use settings::Settings;
@@ -33,13 +34,6 @@ pub enum Text {
     Ended,
 }
 
-// `count` bytes of the text, with the text after them; or that it is at its end.
-#[derive(Clone, Copy)]
-pub enum TextLines {
-    Written { count: usize, text: Text },
-    AtEnd,
-}
-
 // The text of a script, from where its bytes led and with its burst register; its input ends here.
 pub fn begin(script: Step, burst: u16, mem: &[u16]) -> Text
     ensures { to_come mem.now result ≡ outcome_text burst (outcome (stepped script mem.now)) }
@@ -51,21 +45,33 @@ pub fn begin(script: Step, burst: u16, mem: &[u16]) -> Text
     }
 }
 
-// The next lines of a text, at the start of `out`.
-pub fn next(text: Text, mem: &[u16], out: &mut [u8; 2048]) -> TextLines
+impl Pieces for Text {
+    type Of = [u16; 16384]; // memory
+
+    ghost to_come = { to_come };
+
+    ghost calls = { calls };
+
+    fn next(self, mem: &[u16; 16384], out: &mut [u8; 2048]) -> Option<Piece<Text>> {
+        next(self, mem, out)
+    }
+}
+
+// The next lines of a text, at the start of `out`; or that it is at its end.
+pub fn next(text: Text, mem: &[u16], out: &mut [u8; 2048]) -> Option<Piece<Text>>
     ensures { Next mem.now text result out.new }
 {
     match text {
         Text::Rows(p) => next_row(p, mem, out),
-        Text::Refused(refusal) => TextLines::Written {
+        Text::Refused(refusal) => Some(Piece {
             count: lines::refusal_line(refusal, out),
-            text: Text::Ended,
-        },
-        Text::NoScript(offset) => TextLines::Written {
+            after: Text::Ended,
+        }),
+        Text::NoScript(offset) => Some(Piece {
             count: lines::script_line(offset, out),
-            text: Text::Ended,
-        },
-        Text::Ended => TextLines::AtEnd,
+            after: Text::Ended,
+        }),
+        Text::Ended => None,
     }
 }
 
@@ -74,38 +80,35 @@ fn begin_frame(settings: Settings, burst: u16, mem: &[u16]) -> Text
     ensures { to_come mem.now result ≡ frame_text burst settings mem.now }
 {
     match frame::begin(settings, mem, 0) {
-        BeginAnswer::Begun(progress) => Text::Rows(Reporting {
+        Ok(progress) => Text::Rows(Reporting {
             settings,
             burst,
             before: progress.words as u16,
             totals: bus::none(),
             progress,
         }),
-        BeginAnswer::Refused(refusal) => Text::Refused(refusal),
+        Err(refusal) => Text::Refused(refusal),
     }
 }
 
 // The line of a frame's next row, or its last lines.
-fn next_row(p: Reporting, mem: &[u16], out: &mut [u8; 2048]) -> TextLines
+fn next_row(p: Reporting, mem: &[u16], out: &mut [u8; 2048]) -> Option<Piece<Text>>
     ensures { Next mem.now (Rows p) result out.new }
 {
-    let settings = p.settings;
-    let from = p.progress;
-    let totals = p.totals;
     let mut cells = [0u32; 132];
-    match frame::step(settings, mem, from, &mut cells) {
+    match frame::step(p.settings, mem, p.progress, &mut cells) {
         StepAnswer::Drawn { row, progress } => {
             let h = handed_in(p.burst, p.before, row.words, row.number);
-            write_row(p, progress, h, bus::report_by_value(totals, h), out)
+            write_row(p, progress, h, bus::report_by_value(p.totals, h), out)
         }
-        StepAnswer::Ended { rows, words } => TextLines::Written {
-            count: bus_lines::total_lines(totals, out),
-            text: Text::Ended,
-        },
-        StepAnswer::Refused(refusal) => TextLines::Written {
+        StepAnswer::Ended { .. } => Some(Piece {
+            count: bus_lines::total_lines(p.totals, out),
+            after: Text::Ended,
+        }),
+        StepAnswer::Refused(refusal) => Some(Piece {
             count: lines::refusal_line(refusal, out),
-            text: Text::Ended,
-        },
+            after: Text::Ended,
+        }),
     }
 }
 
@@ -129,27 +132,23 @@ fn write_row(
     row: BusRow,
     r: Reported,
     out: &mut [u8; 2048],
-) -> TextLines
+) -> Option<Piece<Text>>
     requires { progress.state.fields.left < p.progress.state.fields.left }
     ensures { RowNext p progress row r result out.new }
 {
-    let settings = p.settings;
-    let totals = r.totals;
-    let answer = r.answer;
-    match answer {
-        BusAnswer::Counted(f) => TextLines::Written {
+    match r.answer {
+        Ok(f) => Some(Piece {
             count: bus_lines::row_line(row, f, out),
-            text: Text::Rows(Reporting {
-                settings,
-                burst: p.burst,
+            after: Text::Rows(Reporting {
                 before: 0,
-                totals,
+                totals: r.totals,
                 progress,
+                ..p
             }),
-        },
-        BusAnswer::Refused(refusal) => TextLines::Written {
+        }),
+        Err(refusal) => Some(Piece {
             count: lines::refusal_line(refusal, out),
-            text: Text::Ended,
-        },
+            after: Text::Ended,
+        }),
     }
 }

@@ -1,5 +1,6 @@
 -- Demand 3 for a console's calls: what a call wrote is read back as it was, so the calls go as the rows and effects that they stand for
 -- do, and a row call is the row drawn alone.
+use Rattle.std.proofs.Common.{Option, Some, None, Result, Ok, Err}
 use mathlib.Core.Path.{◌≡◌, refl, ap, ap₂, sym, subst, ◌∙◌}
 use mathlib.Core.Bool.{Bool, true, false, ◌&&◌, not}
 use mathlib.Core.List.{List, [], ◌∷◌}
@@ -17,25 +18,18 @@ use Rattle.settings.specs.declared.Settings.{Settings}
 use Rattle.state.specs.declared.Fields.{Fields}
 use Rattle.state.specs.declared.State.{State}
 use Rattle.state.specs.State.{state_of}
-use Rattle.row.specs.declared.RowAnswer.{RowAnswer}
-use Rattle.row.specs.declared.RowAnswer.TheVariants as Row
 use Rattle.row.specs.Row.{Row, row, Called, called, answered, row_call}
 use Rattle.joining.specs.declared.Effect.{Effect}
-use Rattle.joining.specs.declared.Applied.{Applied}
-use Rattle.joining.specs.declared.Applied.TheVariants as Applies
 use Rattle.joining.specs.Join.{empty, join, apply}
 use Rattle.joining.proofs.Joining.{apply-empty}
-use Rattle.effect.specs.declared.NextFields.{NextFields}
-use Rattle.effect.specs.declared.NextFields.TheVariants.{Reached, Unreached}
 use Rattle.effect.specs.Effect.{effect_call}
 use Rattle.effect.specs.Demand.{state_after, fields_after}
 use Rattle.effect.proofs.Alone.{Stands, goes, stays, tail}
 use Rattle.listed.specs.Listed.{list_after, RowListed, row_with, called_with, row_listed}
 use Rattle.listed_alone.specs.DemandListed as Listed
 use Rattle.listed_alone.proofs.AloneListed.{right, head}
-use Rattle.numbers.specs.declared.decode.SettingsIn.TheVariants as Settings-in
-use Rattle.numbers.specs.declared.decode.StateIn.TheVariants as State-in
 use Rattle.numbers.specs.Decode.{settings_at, settings_in, fields_at, state_in}
+use Rattle.row.specs.declared.DrawnRow.{DrawnRow}
 use Rattle.answers.specs.AnswerNumbers.{row_numbers}
 use Rattle.listed_answers.specs.AfterListed.{drawn_listed, after_row_listed}
 use Rattle.effects.specs.EffectNumbers.{effect_numbers}
@@ -66,20 +60,20 @@ listed c = record {
 }
 
 -- no refusal of a row has the number 0
-numbered : (σ : Settings) (m : List ℕ) (s : State) (b list : List ℕ) {r : Refusal} → (row_listed σ m s b list).answer ≡ Row.Refused r → eqb r.number 0 ≡ false
+numbered : (σ : Settings) (m : List ℕ) (s : State) (b list : List ℕ) {r : Refusal} → (row_listed σ m s b list).answer ≡ Err r → eqb r.number 0 ≡ false
 numbered σ m s b list {r} e =
-    let told = subst (λ (a : RowAnswer). within (of_row a) row_listed_numbers ≡ true) e (row-listed-told σ m s b list) in
+    let told = subst (λ (a : Result DrawnRow Refusal). within (of_row a) row_listed_numbers ≡ true) e (row-listed-told σ m s b list) in
     not-true (eqb r.number 0) (passes (λ n. not (eqb n 0)) r.number row_listed_numbers (both (has r.number row_listed_numbers) true told).0 refl)
 
-module _ (settings m : List ℕ) (σ : Settings) (g : settings_in settings ≡ Settings-in.Fit σ) (b : Words m) where
+module _ (settings m : List ℕ) (σ : Settings) (g : settings_in settings ≡ Some σ) (b : Words m) where
   -- ---- what the calls come to, on numbers that are read ----
 
-  row-call : (xs cells list answer : List ℕ) (s : State) → state_in xs ≡ State-in.Fit s → length answer ≡ 8
+  row-call : (xs cells list answer : List ℕ) (s : State) → state_in xs ≡ Some s → length answer ≡ 8
       → host_row settings m xs cells list answer ≡ after_row_listed xs answer (row_listed σ m s cells list)
   unfolding host_row
   row-call xs cells list answer s e l = rw (l, g, e)
 
-  effect-call : (xs effect : List ℕ) (s : State) → state_in xs ≡ State-in.Fit s → length effect ≡ 12
+  effect-call : (xs effect : List ℕ) (s : State) → state_in xs ≡ Some s → length effect ≡ 12
       → host_effect settings m xs effect ≡ after_effect s.latch xs (effect_call σ m s.fields)
   unfolding host_effect
   effect-call xs effect s e l = rw (l, g, e)
@@ -98,37 +92,37 @@ module _ (settings m : List ℕ) (σ : Settings) (g : settings_in settings ≡ S
 
   -- the state's numbers, and those of the fields reached, are read; the effects above fit their numbers
   record Read (s : State) (f : Fields) (e : Effect) (state fields : List ℕ) : Type 0 where
-    state-read : state_in state ≡ State-in.Fit s
+    state-read : state_in state ≡ Some s
     state-fits : StateFits s
-    fields_read : (latch : ℕ) → latch < 65536 → state_in (with_latch latch fields) ≡ State-in.Fit (state_of latch f)
+    fields_read : (latch : ℕ) → latch < 65536 → state_in (with_latch latch fields) ≡ Some (state_of latch f)
     fields_fit : FieldsFit f
     above-fits : EffectFits e
 
   -- ---- the call is the row drawn alone ----
 
   -- a row's answer on the call's slices, and on those of the row drawn alone
-  on-slices : (c : Call) (state zs : List ℕ) (a : RowAnswer) (cells list : List ℕ) → length c.answer ≡ 8
-      → ((r : Refusal) → a ≡ Row.Refused r → eqb r.number 0 ≡ false)
+  on-slices : (c : Call) (state zs : List ℕ) (a : Result DrawnRow Refusal) (cells list : List ℕ) → length c.answer ≡ 8
+      → ((r : Refusal) → a ≡ Err r → eqb r.number 0 ≡ false)
       → given_by (after_row_listed state c.answer (Listed.on_lent (listed c) a cells list)) ≡ on_slices c (after_row_listed zs c.alone_answer (row_with a cells list))
   unfolding on_slices Listed.on_lent row_numbers
-  on-slices c state zs (Row.Accepted d) cells list l n = refl
-  on-slices c state zs (Row.Refused r) cells list l n =
+  on-slices c state zs (Ok d) cells list l n = refl
+  on-slices c state zs (Err r) cells list l n =
       rw (n r refl, same-refusal r c.answer c.alone_answer (omega (arith, l)) (omega (arith, c.alone_numbers))) refl
 
-  row-alone : (c : Call) (s : State) (f : Fields) (state fields : List ℕ) (a : Applied) → length c.answer ≡ 8
+  row-alone : (c : Call) (s : State) (f : Fields) (state fields : List ℕ) (a : Result ℕ Refusal) → length c.answer ≡ 8
       → row_listed σ m s c.cells c.list ≡ Listed.row_alone σ m f (listed c) a
-      → ((latch : ℕ) → a ≡ Applies.Latch latch → state_in (with_latch latch fields) ≡ State-in.Fit (state_of latch f))
+      → ((latch : ℕ) → a ≡ Ok latch → state_in (with_latch latch fields) ≡ Some (state_of latch f))
       → given_by (after_row_listed state c.answer (Listed.row_alone σ m f (listed c) a)) ≡ row_alone settings m fields c (after_apply c.applied a)
   unfolding Listed.row_alone row_alone
-  row-alone c s f state fields (Applies.Latch latch) l e h =
+  row-alone c s f state fields (Ok latch) l e h =
       rw (row-call (with_latch latch fields) c.alone_cells c.alone_list c.alone_answer (state_of latch f) (h latch refl) c.alone_numbers)
       (on-slices c state (with_latch latch fields) _ _ _ l λ r k. numbered σ m (state_of latch f) c.alone_cells c.alone_list k)
-  row-alone c s f state fields (Applies.Refused r) l e h =
+  row-alone c s f state fields (Err r) l e h =
       rw (numbered σ m s c.cells c.list (ap (λ (x : RowListed). x.answer) e), same-refusal r c.answer c.applied (omega (arith, l)) (omega (arith, c.applied_size)))
 
   -- the latch that the effects above make is the state's
   latch-made : (first : ℕ) {f : Fields} {e : Effect} {s : State} → Stands σ m first f e s → StateFits s → (latch : ℕ)
-      → apply e first ≡ Applies.Latch latch → latch < 65536
+      → apply e first ≡ Ok latch → latch < 65536
   latch-made first (goes {l} h) k latch q = let same : l ≡ latch = cc in omega (arith, k.latch)
   latch-made first (stays x q h) k latch p = let z : ◌≡◌ {A = ℕ} 0 1 = cc in absurd (omega arith)
 
@@ -145,22 +139,22 @@ module _ (settings m : List ℕ) (σ : Settings) (g : settings_in settings ≡ S
 
     -- ---- and the calls after it stand so again ----
 
-    state-after : (state answer cells list : List ℕ) (o : Outcome Row) → run m (row σ s) ≡ o → state_in state ≡ State-in.Fit s → StateFits s
+    state-after : (state answer cells list : List ℕ) (o : Outcome Row) → run m (row σ s) ≡ o → state_in state ≡ Some s → StateFits s
         → (state_in (after_row_listed state answer (called_with (answered σ s.fields cells o) list)).state
-        ≡ State-in.Fit (state_after s (answered σ s.fields cells o).answer)) × StateFits (state_after s (answered σ s.fields cells o).answer)
+        ≡ Some (state_after s (answered σ s.fields cells o).answer)) × StateFits (state_after s (answered σ s.fields cells o).answer)
     unfolding state_after
     state-after state answer cells list (given n r) q h k =
         let fits = next_fits m b σ s k q in (state-back (state_of r.drawing.pen.latch r.next) fits, fits)
     state-after state answer cells list (refused x) q h k = (h, k)
 
-    fields-after : (k : ℕ) (fields : List ℕ) (x : NextFields) → NextFits m b x
-        → ((latch : ℕ) → latch < 65536 → state_in (with_latch latch fields) ≡ State-in.Fit (state_of latch f)) → FieldsFit f
-        → ((latch : ℕ) → latch < 65536 → state_in (with_latch latch (stepped k (with_latch k fields) x)) ≡ State-in.Fit (state_of latch (fields_after f x)))
+    fields-after : (k : ℕ) (fields : List ℕ) (x : Option Fields) → NextFits m b x
+        → ((latch : ℕ) → latch < 65536 → state_in (with_latch latch fields) ≡ Some (state_of latch f)) → FieldsFit f
+        → ((latch : ℕ) → latch < 65536 → state_in (with_latch latch (stepped k (with_latch k fields) x)) ≡ Some (state_of latch (fields_after f x)))
         × FieldsFit (fields_after f x)
     unfolding fields_after
-    fields-after k fields (Reached g) n h i =
+    fields-after k fields (Some g) n h i =
         (λ latch l. rw (written-latch latch k g) (state-back (state_of latch g) (record { latch = l; fields = n })), n)
-    fields-after k fields Unreached n h i = (λ latch l. rw (set-set fields 0 k latch) (h latch l), i)
+    fields-after k fields None n h i = (λ latch l. rw (set-set fields 0 k latch) (h latch l), i)
 
     module _ (c : Call) (state fields : List ℕ) (t : is_row c ≡ true) (r : Read s f e state fields) where
       -- what the effect call leaves, and the effects joined
@@ -189,7 +183,7 @@ module _ (settings m : List ℕ) (σ : Settings) (g : settings_in settings ≡ S
           }
 
   -- a call that is no row leaves the state
-  no_row : (c : Call) (state : List ℕ) (s : State) → is_row c ≡ false → state_in state ≡ State-in.Fit s
+  no_row : (c : Call) (state : List ℕ) (s : State) → is_row c ≡ false → state_in state ≡ Some s
       → (host_row settings m state c.cells c.list c.answer).state ≡ state
   unfolding host_row row_listed row_call
   no_row c state s t h =
@@ -197,11 +191,11 @@ module _ (settings m : List ℕ) (σ : Settings) (g : settings_in settings ≡ S
     where
       out : (t u : Bool) → RowListed
       out t u =
-          let a : Called = when t then answered σ s.fields c.cells (run m (row σ s)) else called (Row.Refused (refusal s.fields.row (fault 1))) c.cells in
+          let a : Called = when t then answered σ s.fields c.cells (run m (row σ s)) else called (Err (refusal s.fields.row (fault 1))) c.cells in
           when t
           then (when u
           then called_with a (list_after m (row σ s) c.list)
-          else row_with (Row.Refused (refusal s.fields.row (fault 25))) c.cells c.list)
+          else row_with (Err (refusal s.fields.row (fault 25))) c.cells c.list)
           else called_with a c.list
 
       by_size : (t u v : Bool) → t && u && v ≡ false
@@ -235,7 +229,7 @@ module _ (settings m : List ℕ) (σ : Settings) (g : settings_in settings ≡ S
     in-turn [] = λ f e s state fields st r. refl
     in-turn (c ∷ cs) = turn c cs (in-turn cs)
 
-settings-read : (xs : List ℕ) → length xs ≡ 18 → settings_in xs ≡ Settings-in.Fit (settings_at xs)
+settings-read : (xs : List ℕ) → length xs ≡ 18 → settings_in xs ≡ Some (settings_at xs)
 unfolding settings_in
 settings-read xs l = rw l
 

@@ -1,4 +1,5 @@
 -- A state's numbers with another latch are those of the state with that latch; a refusal is the first three numbers of any answer.
+use Rattle.std.proofs.Common.{Some}
 use mathlib.Core.Path.{◌≡◌, refl, ap, ◌∙◌}
 use mathlib.Core.Bool.{Bool, true, ◌&&◌}
 use mathlib.Core.List.{List, [], ◌∷◌, ◌++◌}
@@ -13,7 +14,6 @@ use Rattle.memory.specs.declared.Refusal.{Refusal}
 use Rattle.memory.proofs.ReadBounds.{both}
 use Rattle.state.specs.declared.Fields.{Fields}
 use Rattle.state.specs.State.{state_of}
-use Rattle.numbers.specs.declared.decode.StateIn.TheVariants.{Fit}
 use Rattle.numbers.specs.Decode.{state_fits, lines_at, format_at, window_at, fields_at, is_state, state_in}
 use Rattle.numbers.specs.Encode.{state_numbers}
 use Rattle.answers.specs.AnswerNumbers.{with_refusal}
@@ -46,18 +46,18 @@ unfolding is_state
 first-latch [] h = omega arith
 first-latch (x ∷ xs) h = omega (arith, leb-true x 65535 (latch-test x x xs h))
 
-pub read-state : (xs : List ℕ) → is_state xs ≡ true → state_in xs ≡ Fit (state_of (at xs 0) (fields_at xs))
+pub read-state : (xs : List ℕ) → is_state xs ≡ true → state_in xs ≡ Some (state_of (at xs 0) (fields_at xs))
 unfolding state_in
 read-state xs h =
     let same : at xs 0 % 65536 ≡ at xs 0 = mod-eq_of_lt (omega (arith, first-latch xs h)) in
     rw (h, same)
 
 -- .. and may be another
-pub another-latch : (xs : List ℕ) (l : ℕ) → is_state xs ≡ true → l < 65536 → state_in (with_latch l xs) ≡ Fit (state_of l (fields_at xs))
+pub another-latch : (xs : List ℕ) (l : ℕ) → is_state xs ≡ true → l < 65536 → state_in (with_latch l xs) ≡ Some (state_of l (fields_at xs))
 unfolding is_state
 another-latch [] l h k = let q : ◌≡◌ {A = ℕ} 0 1 = cc in absurd (omega arith)
 another-latch (x ∷ xs) l h k =
-    read-state (l ∷ xs) (still-state x l xs k h) ∙ ap (λ (f : Fields). Fit (state_of l f)) (same-fields x l xs)
+    read-state (l ∷ xs) (still-state x l xs k h) ∙ ap (λ (f : Fields). Some (state_of l f)) (same-fields x l xs)
 
 pub written-latch : (l k : ℕ) (f : Fields) → with_latch l (state_numbers (state_of k f)) ≡ state_numbers (state_of l f)
 unfolding state_numbers

@@ -1,39 +1,30 @@
 -- The laws by which a proof follows a fill run: one for each way through a definition.
+use Rattle.std.proofs.Common.{Some, None, Result, Ok, Err}
 use mathlib.Core.Path.{◌≡◌, ap₂, sym, ◌∙◌}
 use mathlib.Core.List.{List, ◌++◌, append_assoc, append-nil}
 use mathlib.Core.Bool.{true, false, ◌&&◌}
-use Prim.Native.Nat.{ℕ, ◌+◌, ◌-◌, ◌<◌, ◌≤◌, zero-le}
+use Prim.Native.Nat.{ℕ, ◌+◌, ◌-◌, ◌<◌, ◌≤◌}
 use native.Mathlib.Omega.{arith}
 use native.Mathlib.Nat.{sub_self}
 use lib.ListN.{length, take, set, replicate, replicate-append-replicate}
 use borrow.Author.Tests.{lt-ltb, le-ltb}
-use Rattle.memory.specs.declared.Fetch.TheVariants.{Word, Absent}
+use Rattle.memory.specs.declared.Fault.{Fault}
 use Rattle.memory.specs.Reading.{◌>>=◌, fetch, missing, given, refused, run_from}
 use Rattle.memory.proofs.Laws.{run-done, run-refuse, ask-word, ask-absent}
 use Rattle.memory.proofs.ListLaws.{take_next}
 use Rattle.blocks.specs.declared.FillMode.{FillMode}
 use Rattle.codes.specs.declared.CodeSettings.{CodeSettings}
 use Rattle.codes.specs.declared.Pen.{Pen}
-use Rattle.codes.specs.declared.Drawn.{Drawn}
-use Rattle.codes.specs.declared.Drawn.TheVariants.{Accepted, Refused}
+use Rattle.codes.specs.declared.Reached.{Reached}
 use Rattle.codes.specs.Attribute.{Fill, latches, cell}
 use Rattle.codes.specs.Codes.{Drawing, drawing, moved_to, taking, put}
 use Rattle.codes.specs.Answers.{so_far}
 use Rattle.cells.specs.Cells.{filled, unlatched, fill_by_word, fill_to}
-use Rattle.cells.specs.Answers.{Reached}
+use Rattle.cells.specs.Answers.{DrawnTo}
 
 -- ---- cells in an array ----
 
--- a run of equal cells: none, one more, and a run as a fill
-pub run_none : (k : List ℕ) (a v : ℕ) → k ≡ k ++ replicate (a - a) v
-run_none k a v = rw (sub_self a) (sym (append-nil k))
-
-pub run_more : (l k : List ℕ) (a i v : ℕ) → a ≤ i → i < length l → take i l ≡ k ++ replicate (i - a) v
-    → take (i + 1) (set l i v) ≡ k ++ replicate (i + 1 - a) v
-run_more l k a i v h g e =
-    let n : i + 1 - a ≡ i - a + 1 = omega arith in
-    take_next l i v g ∙ rw (e, append_assoc, replicate-append-replicate (i - a) 1 v, n)
-
+-- a run of equal cells is a fill
 pub filled-run : (fill : FillMode) (end : ℕ) (p : Pen) (cs cs' : List ℕ) → p.column ≤ end
     → take end cs' ≡ take p.column cs ++ replicate (end - p.column) (cell Fill p.latch fill.code)
     → so_far (moved_to end p) cs' ≡ filled fill end (so_far p cs)
@@ -43,23 +34,23 @@ filled-run fill end p cs cs' l e =
     ap₂ (λ (c : ℕ) (xs : List ℕ). drawing (moved_to c p) xs) k e
 
 -- ---- answers ----
-pub reached-more : (end k l : ℕ) (r : Drawn) → Reached end k r → k ≤ l → Reached end l r
-reached-more end k l (Accepted p n) h i = (h.0, omega arith)
-reached-more end k l (Refused n a f) h i = (h.0, zero-le)
+pub to-more : (end k l : ℕ) (r : Result Reached Fault) → DrawnTo end k r → k ≤ l → DrawnTo end l r
+to-more end k l (Ok r) h i = (h.0, omega arith)
+to-more end k l (Err x) h i = tt
 
 -- ---- fill runs ----
 module _ (n : ℕ) (m : List ℕ) (σ : CodeSettings) (fill : FillMode) (end : ℕ) (d : Drawing) where
-  pub fill-word : (x : ℕ) → fetch m d.pen.list.next.address ≡ Word x → latches x ≡ true
+  pub fill-word : (x : ℕ) → fetch m d.pen.list.next.address ≡ Some x → latches x ≡ true
       → run_from n m (fill_by_word σ fill end d) ≡ given (n + 1) (filled fill end (drawing (taking σ.linear x d.pen) d.cells))
   unfolding fill_by_word ◌>>=◌
   fill-word x e h = ask-word n m d.pen.list.next _ x e ∙ rw h (run-done _ _ _)
 
-  pub fill-unlatched : (x : ℕ) → fetch m d.pen.list.next.address ≡ Word x → latches x ≡ false
+  pub fill-unlatched : (x : ℕ) → fetch m d.pen.list.next.address ≡ Some x → latches x ≡ false
       → run_from n m (fill_by_word σ fill end d) ≡ refused (unlatched d.pen.list.next)
   unfolding fill_by_word ◌>>=◌
   fill-unlatched x e h = ask-word n m d.pen.list.next _ x e ∙ rw h (run-refuse _ _ _)
 
-  pub fill-absent : fetch m d.pen.list.next.address ≡ Absent → run_from n m (fill_by_word σ fill end d) ≡ refused (missing d.pen.list.next)
+  pub fill-absent : fetch m d.pen.list.next.address ≡ None → run_from n m (fill_by_word σ fill end d) ≡ refused (missing d.pen.list.next)
   unfolding fill_by_word ◌>>=◌
   fill-absent e = ask-absent n m d.pen.list.next _ e
 

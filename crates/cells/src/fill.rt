@@ -1,15 +1,16 @@
 // Fill runs.
 ghost use Rattle.std.specs.Prelude.{◌≡◌, ◌++◌, ◌+◌, ◌-◌, ◌≤◌, length, take, replicate};
 ghost use Rattle.memory.specs.Reading.{run_from};
-ghost use Rattle.cells.specs.Cells.{filled, fill_by_word, fill_to};
+ghost use Rattle.cells.specs.Cells.{filled, unlatched, fill_by_word, fill_to};
 ghost use Rattle.codes.specs.Answers.{so_far, drawn};
-ghost use Rattle.cells.specs.Answers.{Reached};
+ghost use Rattle.cells.specs.Answers.{DrawnTo};
 
 use blocks::FillMode;
-use codes::{CodeSettings, Drawn, Pen, Source, attribute, pens};
-use memory::Fetch;
+use codes::{CodeSettings, Pen, Reached, Source, attribute, pens};
+use memory::{Fault, Pointer};
 
-// A fill run up to the column `end`.
+// A fill run up to the column `end`. Called, and not in line, it would get the pen and give it back through memory.
+#[inline(always)]
 pub(crate) fn fill_to(
     mem: &[u16],
     settings: CodeSettings,
@@ -18,22 +19,22 @@ pub(crate) fn fill_to(
     pen: Pen,
     words: u32,
     cells: &mut [u32],
-) -> Drawn
+) -> Result<Reached, Fault>
     requires { (end ≤ length cells.old) × (pen.column ≤ end) × (words ≤ 4200000000) }
-    ensures reached { Reached end (words + 1) result }
+    ensures reached { DrawnTo end (words + 1) result }
     ensures cells_after { drawn result cells.new ≡ run_from words mem.now (fill_to settings fill end (so_far pen cells.old)) }
 {
     if pen.column < end {
         if fill.flag & pen.list.present {
             fill_by_word(mem, settings, fill, end, pen, words, cells)
         } else {
-            Drawn::Accepted {
+            Ok(Reached {
                 pen: fill_run(fill, end, pen, cells),
                 words,
-            }
+            })
         }
     } else {
-        Drawn::Accepted { pen, words }
+        Ok(Reached { pen, words })
     }
 }
 
@@ -46,36 +47,34 @@ fn fill_by_word(
     pen: Pen,
     words: u32,
     cells: &mut [u32],
-) -> Drawn
+) -> Result<Reached, Fault>
     requires { (end ≤ length cells.old) × (pen.column ≤ end) × (words ≤ 4200000000) }
-    ensures reached { Reached end (words + 1) result }
+    ensures reached { DrawnTo end (words + 1) result }
     ensures cells_after { drawn result cells.new ≡ run_from words mem.now (fill_by_word settings fill end (so_far pen cells.old)) }
 {
     let next = pen.list.next;
-    match memory::word_at(mem, next.address) {
-        Fetch::Word(w) => {
-            if memory::bit_15(w) {
-                let taken = pens::take_word(settings.linear, w, pen);
-                Drawn::Accepted {
-                    pen: fill_run(fill, end, taken, cells),
-                    words: words + 1,
-                }
-            } else {
-                Drawn::Refused {
-                    number: 13,
-                    address: next.address,
-                    from: next.from as u64,
-                }
-            }
-        }
-        Fetch::Absent => {
-            let fault = memory::missing(next);
-            Drawn::Refused {
-                number: fault.number,
-                address: fault.address,
-                from: fault.from as u64,
-            }
-        }
+    let Some(w) = memory::word_at(mem, next.address) else {
+        return Err(memory::missing(next));
+    };
+    if memory::bit_15(w) {
+        let taken = pens::take_word(settings.linear, w, pen);
+        Ok(Reached {
+            pen: fill_run(fill, end, taken, cells),
+            words: words + 1,
+        })
+    } else {
+        Err(unlatched(next))
+    }
+}
+
+// Refusal 13: the attribute pointer in use is to blame.
+pub fn unlatched(p: Pointer) -> Fault
+    ensures { result ≡ unlatched p }
+{
+    Fault {
+        number: 13,
+        address: p.address,
+        from: p.from,
     }
 }
 
@@ -95,9 +94,7 @@ fn fill_cells(cells: &mut [u32], a: usize, e: usize, v: u32)
     requires { (a ≤ e) × (e ≤ length cells.old) }
     ensures { take e cells.new ≡ take a cells.old ++ replicate (e - a) v }
 {
-    let mut i = a;
-    while i < e {
-        cells[i] = v;
-        i += 1;
+    for cell in &mut cells[a..e] {
+        *cell = v;
     }
 }

@@ -9,24 +9,21 @@ ghost use Rattle.layout.specs.Answers.{overlay_of};
 ghost use Rattle.codes.specs.Codes.{blank};
 ghost use Rattle.cells.specs.Cells.{code_count, segment, segments_to, row_cells};
 ghost use Rattle.codes.specs.Answers.{so_far, drawn};
-ghost use Rattle.cells.specs.Answers.{finish, finished, Reached, Drawable};
+ghost use Rattle.cells.specs.Answers.{finish, finished, DrawnTo, Drawable};
 
 use blocks::{FillMode, Segment, SegmentCount};
-use codes::{CodeSettings, Drawn, Pen, Room, Source, pens};
+use codes::{CodeSettings, Pen, Reached, Room, Source, pens};
 use layout::{OverlayHead, Side};
-use memory::Fault;
+use memory::{Fault, Pointer};
 
 pub mod fill; // fill runs
 
 // What the cells of a row came to: the latch, whether a word of this row became it, and the words read; or the refusal met.
 #[derive(Clone, Copy)]
-pub enum CellsDrawn {
-    Accepted {
-        latch: u16,
-        latched: bool,
-        words: u32,
-    },
-    Refused(Fault),
+pub struct CellsDrawn {
+    pub latch: u16,
+    pub latched: bool,
+    pub words: u32,
 }
 
 // A stretch of a row: what it is drawn by, the segments on a side, their source, and the column up to which the fill run after them goes.
@@ -44,38 +41,26 @@ pub fn draw_cells(
     mem: &[u16],
     settings: CodeSettings,
     fill: FillMode,
-    overlay: OverlayHead,
+    overlay: Option<OverlayHead>,
     back: &[u16; 75],
     count: SegmentCount,
     window: &[u16; 75],
     latch: u16,
     words: u32,
     cells: &mut [u32],
-) -> CellsDrawn
+) -> Result<CellsDrawn, Fault>
     requires drawable { Drawable settings.hidden (overlay_of settings.linear overlay window.now) (segments_of settings.linear count back.now) }
     requires words_bound { (words ≤ 1000) × (length cells.old ≡ 132) }
     ensures { finished result cells.new ≡ finish (run_from words mem.now (row_cells settings fill (overlay_of settings.linear overlay window.now) (segments_of settings.linear count back.now) (blank latch))) }
 {
-    match walk_cells(
+    let row = walk_cells(
         mem, settings, fill, overlay, back, count, window, latch, words, cells,
-    ) {
-        Drawn::Refused {
-            number,
-            address,
-            from,
-        } => {
-            CellsDrawn::Refused(Fault {
-                number,
-                address,
-                from: from as u32,
-            })
-        },
-        Drawn::Accepted { pen, words: read } => CellsDrawn::Accepted {
-            latch: pen.latch,
-            latched: pen.latched,
-            words: read,
-        },
-    }
+    )?;
+    Ok(CellsDrawn {
+        latch: row.pen.latch,
+        latched: row.pen.latched,
+        words: row.words,
+    })
 }
 
 // How many codes of a segment are examined.
@@ -94,22 +79,22 @@ fn walk_cells(
     mem: &[u16],
     settings: CodeSettings,
     fill: FillMode,
-    overlay: OverlayHead,
+    overlay: Option<OverlayHead>,
     back: &[u16; 75],
     count: SegmentCount,
     window: &[u16; 75],
     latch: u16,
     words: u32,
     cells: &mut [u32],
-) -> Drawn
+) -> Result<Reached, Fault>
     requires drawable { Drawable settings.hidden (overlay_of settings.linear overlay window.now) (segments_of settings.linear count back.now) }
     requires words_bound { (words ≤ 1000) × (length cells.old ≡ 132) }
-    ensures reached { Reached 132 (words + 400000) result }
+    ensures reached { DrawnTo 132 (words + 400000) result }
     ensures cells_after { drawn result cells.new ≡ run_from words mem.now (row_cells settings fill (overlay_of settings.linear overlay window.now) (segments_of settings.linear count back.now) (blank latch)) }
 {
     let pen = pens::blank(latch);
     match overlay {
-        OverlayHead::NoOverlay => {
+        None => {
             let stretch = Stretch {
                 settings,
                 fill,
@@ -119,13 +104,8 @@ fn walk_cells(
             };
             draw_run(mem, cells, stretch, back, count, pen, words)
         }
-        OverlayHead::Over {
-            number,
-            first,
-            end,
-            count: n,
-        } => draw_around(
-            mem, settings, fill, number, first, end, back, count, window, n, pen, words, cells,
+        Some(head) => draw_around(
+            mem, settings, fill, head, back, count, window, pen, words, cells,
         ),
     }
 }
@@ -135,87 +115,52 @@ fn draw_around(
     mem: &[u16],
     settings: CodeSettings,
     fill: FillMode,
-    number: u8,
-    first: usize,
-    end: usize,
+    head: OverlayHead,
     back: &[u16; 75],
     count: SegmentCount,
     window: &[u16; 75],
-    n: SegmentCount,
     pen: Pen,
     words: u32,
     cells: &mut [u32],
-) -> Drawn
-    requires drawable { Drawable settings.hidden (over number first end (segments_of settings.linear n window.now)) (segments_of settings.linear count back.now) }
+) -> Result<Reached, Fault>
+    requires drawable { Drawable settings.hidden (over head.number head.first head.end (segments_of settings.linear head.count window.now)) (segments_of settings.linear count back.now) }
     requires column_value { (pen.column ≡ 0) × (length cells.old ≡ 132) × (words ≤ 1000) }
-    ensures reached { Reached 132 (words + 400000) result }
-    ensures cells_after { drawn result cells.new ≡ run_from words mem.now (row_cells settings fill (over number first end (segments_of settings.linear n window.now)) (segments_of settings.linear count back.now) (so_far pen cells.old)) }
+    ensures reached { DrawnTo 132 (words + 400000) result }
+    ensures cells_after { drawn result cells.new ≡ run_from words mem.now (row_cells settings fill (over head.number head.first head.end (segments_of settings.linear head.count window.now)) (segments_of settings.linear count back.now) (so_far pen cells.old)) }
 {
     let before_it = Stretch {
         settings,
         fill,
         source: Source { kind: 1, window: 0 },
-        side: Side::Before(first),
-        end: first,
+        side: Side::Before(head.first),
+        end: head.first,
     };
-    match draw_run(mem, cells, before_it, back, count, pen, words) {
-        Drawn::Refused {
-            number,
-            address,
-            from,
-        } => Drawn::Refused {
-            number,
-            address,
-            from,
+    let before = draw_run(mem, cells, before_it, back, count, pen, words)?;
+    let within = Stretch {
+        settings,
+        fill,
+        source: Source {
+            kind: 2,
+            window: head.number,
         },
-        Drawn::Accepted {
-            pen: before,
-            words: read,
-        } => {
-            let within = Stretch {
-                settings,
-                fill,
-                source: Source {
-                    kind: 2,
-                    window: number,
-                },
-                side: Side::Whole,
-                end,
-            };
-            let null = memory::Pointer {
-                address: 0,
-                from: 0,
-            };
-            let begun = pens::with_list(null, before);
-            match draw_run(mem, cells, within, window, n, begun, read) {
-                Drawn::Refused {
-                    number,
-                    address,
-                    from,
-                } => Drawn::Refused {
-                    number,
-                    address,
-                    from,
-                },
-                Drawn::Accepted {
-                    pen: after,
-                    words: so_far,
-                } => {
-                    let list = before.list;
-                    let resumed = pens::using_list(list, after);
-                    let side = Side::After(first, end);
-                    let after_it = Stretch {
-                        settings,
-                        fill,
-                        source: Source { kind: 1, window: 0 },
-                        side,
-                        end: 132,
-                    };
-                    draw_run(mem, cells, after_it, back, count, resumed, so_far)
-                }
-            }
-        }
-    }
+        side: Side::Whole,
+        end: head.end,
+    };
+    let left = before.pen;
+    let begun = pens::with_list(Pointer::NULL, left);
+    let inside = draw_run(mem, cells, within, window, head.count, begun, before.words)?;
+    let in_use = before.pen.list;
+    let right = inside.pen;
+    let resumed = pens::using_list(in_use, right);
+    let side = Side::After(head.first, head.end);
+    let after_it = Stretch {
+        settings,
+        fill,
+        source: Source { kind: 1, window: 0 },
+        side,
+        end: 132,
+    };
+    draw_run(mem, cells, after_it, back, count, resumed, inside.words)
 }
 
 // The segments on a side, then the fill run up to the column `end`.
@@ -227,36 +172,22 @@ fn draw_run(
     count: SegmentCount,
     pen: Pen,
     words: u32,
-) -> Drawn
+) -> Result<Reached, Fault>
     requires end_in_bounds { (stretch.end ≤ length cells.old) × (words ≤ 3000000000) }
     requires segments_bound { pen.column + total stretch.settings.hidden (segments_on stretch.side stretch.settings.hidden 0 (segments_of stretch.settings.linear count segments.now)) ≤ stretch.end }
-    ensures reached { Reached stretch.end (words + 131000) result }
+    ensures reached { DrawnTo stretch.end (words + 131000) result }
     ensures cells_after { drawn result cells.new ≡ run_from words mem.now (segments_to stretch.settings stretch.fill stretch.source (segments_on stretch.side stretch.settings.hidden 0 (segments_of stretch.settings.linear count segments.now)) stretch.end (so_far pen cells.old)) }
 {
     let begun = pens::anew(pen);
-    match draw_side(mem, stretch, segments, count, begun, words, cells) {
-        Drawn::Refused {
-            number,
-            address,
-            from,
-        } => Drawn::Refused {
-            number,
-            address,
-            from,
-        },
-        Drawn::Accepted {
-            pen: after,
-            words: read,
-        } => {
-            let settings = CodeSettings {
-                linear: stretch.settings.linear,
-                hidden: stretch.settings.hidden,
-                flag: stretch.settings.flag,
-            };
-            let fill = stretch.fill;
-            fill::fill_to(mem, settings, fill, stretch.end, after, read, cells)
-        }
-    }
+    let drawn = draw_side(mem, stretch, segments, count, begun, words, cells)?;
+    let settings = CodeSettings {
+        linear: stretch.settings.linear,
+        hidden: stretch.settings.hidden,
+        flag: stretch.settings.flag,
+    };
+    let fill = stretch.fill;
+    let after = drawn.pen;
+    fill::fill_to(mem, settings, fill, stretch.end, after, drawn.words, cells)
 }
 
 // The segments on a side, one after the other.
@@ -268,10 +199,10 @@ fn draw_side(
     pen: Pen,
     words: u32,
     cells: &mut [u32],
-) -> Drawn
+) -> Result<Reached, Fault>
     requires words_bound { words ≤ 3000000000 }
     requires segments_in_bounds { pen.column + total stretch.settings.hidden (segments_on stretch.side stretch.settings.hidden 0 (segments_of stretch.settings.linear count segments.now)) ≤ length cells.old }
-    ensures reached { Reached (pen.column + total stretch.settings.hidden (segments_on stretch.side stretch.settings.hidden 0 (segments_of stretch.settings.linear count segments.now))) (words + 512 * count.number) result }
+    ensures reached { DrawnTo (pen.column + total stretch.settings.hidden (segments_on stretch.side stretch.settings.hidden 0 (segments_of stretch.settings.linear count segments.now))) (words + 512 * count.number) result }
     ensures cells_after { drawn result cells.new ≡ run_from words mem.now (each (segment stretch.settings stretch.fill stretch.source) (segments_on stretch.side stretch.settings.hidden 0 (segments_of stretch.settings.linear count segments.now)) (so_far pen cells.old)) }
 {
     // field by field: copied whole, the settings would stay in one register and be taken apart at each code
@@ -287,36 +218,20 @@ fn draw_side(
     let mut current = pen;
     let mut read = words;
     let mut at = 0;
-    let mut i = 0;
-    while i < n {
+    for i in 0..n {
         let g = blocks::segment_at(settings.linear, count, segments, i);
         let w = layout::width(settings.hidden, g);
         let chosen = layout::on_side(side, at, w);
-        match draw_chosen(mem, settings, fill, source, chosen, g, current, read, cells) {
-            Drawn::Refused {
-                number,
-                address,
-                from,
-            } => return Drawn::Refused {
-                number,
-                address,
-                from,
-            },
-            Drawn::Accepted {
-                pen: after,
-                words: so_far,
-            } => {
-                current = pens::anew(after);
-                read = so_far;
-            }
-        }
+        let drawn = draw_chosen(mem, settings, fill, source, chosen, g, current, read, cells)?;
+        let after = drawn.pen;
+        current = pens::anew(after);
+        read = drawn.words;
         at += w;
-        i += 1;
     }
-    Drawn::Accepted {
+    Ok(Reached {
         pen: current,
         words: read,
-    }
+    })
 }
 
 // One segment, where it is chosen.
@@ -330,15 +245,15 @@ fn draw_chosen(
     pen: Pen,
     words: u32,
     cells: &mut [u32],
-) -> Drawn
+) -> Result<Reached, Fault>
     requires { (pen.column + (when chosen then width settings.hidden g else 0) ≤ length cells.old) × (words ≤ 4000000000) }
-    ensures reached { Reached (pen.column + (when chosen then width settings.hidden g else 0)) (words + 512) result }
+    ensures reached { DrawnTo (pen.column + (when chosen then width settings.hidden g else 0)) (words + 512) result }
     ensures cells_after { drawn result cells.new ≡ run_from words mem.now (when chosen then segment settings fill source g (so_far pen cells.old) else done (so_far pen cells.old)) }
 {
     if chosen {
         draw_segment(mem, settings, fill, source, g, pen, words, cells)
     } else {
-        Drawn::Accepted { pen, words }
+        Ok(Reached { pen, words })
     }
 }
 
@@ -352,9 +267,9 @@ fn draw_segment(
     pen: Pen,
     words: u32,
     cells: &mut [u32],
-) -> Drawn
+) -> Result<Reached, Fault>
     requires { (pen.column + width settings.hidden g ≤ length cells.old) × (words ≤ 4000000000) }
-    ensures reached { Reached (pen.column + width settings.hidden g) (words + 512) result }
+    ensures reached { DrawnTo (pen.column + width settings.hidden g) (words + 512) result }
     ensures cells_after { drawn result cells.new ≡ run_from words mem.now (segment settings fill source g (so_far pen cells.old)) }
 {
     let end = pen.column + layout::width(settings.hidden, g);
@@ -362,7 +277,7 @@ fn draw_segment(
     let begun = pens::with_list(attributes, pen);
     let room = Room { source, end };
     let first = g.codes;
-    match runs::draw_codes(
+    let drawn = runs::draw_codes(
         mem,
         settings,
         room,
@@ -371,19 +286,7 @@ fn draw_segment(
         begun,
         words,
         cells,
-    ) {
-        Drawn::Refused {
-            number,
-            address,
-            from,
-        } => Drawn::Refused {
-            number,
-            address,
-            from,
-        },
-        Drawn::Accepted {
-            pen: after,
-            words: read,
-        } => fill::fill_to(mem, settings, fill, end, after, read, cells),
-    }
+    )?;
+    let after = drawn.pen;
+    fill::fill_to(mem, settings, fill, end, after, drawn.words, cells)
 }

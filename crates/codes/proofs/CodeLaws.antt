@@ -1,4 +1,5 @@
 -- The laws by which a proof follows the codes of a segment: one for each way through a definition.
+use Rattle.std.proofs.Common.{Some, None}
 use mathlib.Core.Path.{◌≡◌, ap, sym, ◌∙◌}
 use mathlib.Core.List.{List, ◌∷◌}
 use mathlib.Core.Bool.{Bool, true, false, ◌&&◌, ◌||◌, not}
@@ -9,7 +10,6 @@ use lib.ListN.{length, get_or, take, drop, set}
 use lib.Seq.{drop-cons}
 use lib.Dec.{ltb}
 use borrow.Author.Tests.{ltb-true}
-use Rattle.memory.specs.declared.Fetch.TheVariants.{Word, Absent}
 use Rattle.memory.specs.declared.Fault.{Fault}
 use Rattle.memory.specs.declared.Pointer.{Pointer}
 use Rattle.memory.specs.Reading.{◌>>=◌, each, fetch, missing, given, refused, run_from}
@@ -52,13 +52,13 @@ module _ (hidden : Bool) (source : Source) (end a code : ℕ) (p : Pen) (cs : Li
 -- ---- codes ----
 module _ (n : ℕ) (m : List ℕ) (σ : CodeSettings) (source : Source) (end : ℕ) where
   module _ (code : ℕ) (d : Drawing) where
-    pub examine-word : (x : ℕ) → invokes σ.flag code && d.pen.list.present ≡ true → fetch m d.pen.list.next.address ≡ Word x
+    pub examine-word : (x : ℕ) → invokes σ.flag code && d.pen.list.present ≡ true → fetch m d.pen.list.next.address ≡ Some x
         → run_from n m (examine σ source end code d)
         ≡ given (n + 1) (character σ.hidden source end x code (drawing (taking σ.linear x d.pen) d.cells))
     unfolding examine ◌>>=◌
     examine-word x t e = rw t (ask-word n m d.pen.list.next _ x e ∙ run-done _ _ _)
 
-    pub examine-absent : invokes σ.flag code && d.pen.list.present ≡ true → fetch m d.pen.list.next.address ≡ Absent
+    pub examine-absent : invokes σ.flag code && d.pen.list.present ≡ true → fetch m d.pen.list.next.address ≡ None
         → run_from n m (examine σ source end code d) ≡ refused (missing d.pen.list.next)
     unfolding examine ◌>>=◌
     examine-absent t e = rw t (ask-absent n m d.pen.list.next _ e)
@@ -70,27 +70,27 @@ module _ (n : ℕ) (m : List ℕ) (σ : CodeSettings) (source : Source) (end : �
 
   -- codes one after the other, from code i on of the n first ones
   module _ (bytes : List ℕ) (k i : ℕ) (d : Drawing) where
-    abbrev left : List ℕ
-    left = take (k - i) (drop i bytes)
+    abbrev rest : List ℕ
+    rest = take (k - i) (drop i bytes)
 
-    one_more : i < k → k ≤ length bytes → left ≡ get_or bytes i 0 ∷ take (k - (i + 1)) (drop (i + 1) bytes)
+    one_more : i < k → k ≤ length bytes → rest ≡ get_or bytes i 0 ∷ take (k - (i + 1)) (drop (i + 1) bytes)
     one_more h l =
         let e : k - i ≡ suc (k - (i + 1)) = omega arith in
         ap (λ (j : ℕ). take j (drop i bytes)) e ∙ rw (drop-cons bytes i 0 (omega arith), add-one i)
 
-    pub bytes-none : k ≡ i → run_from n m (each (examine σ source end) left d) ≡ given n d
+    pub bytes-none : k ≡ i → run_from n m (each (examine σ source end) rest d) ≡ given n d
     unfolding each
     bytes-none h =
         let e : k - i ≡ 0 = omega arith in
         ap (λ (j : ℕ). run_from n m (each (examine σ source end) (take j (drop i bytes)) d)) e ∙ run-done _ _ _
 
     pub bytes-refused : {x : Fault} → i < k → k ≤ length bytes → run_from n m (examine σ source end (get_or bytes i 0) d) ≡ refused x
-        → run_from n m (each (examine σ source end) left d) ≡ refused x
+        → run_from n m (each (examine σ source end) rest d) ≡ refused x
     unfolding each
     bytes-refused h l e = ap (λ (bs : List ℕ). run_from n m (each (examine σ source end) bs d)) (one_more h l) ∙ bind-refused n m _ _ e
 
     pub bytes-more : {j : ℕ} {b : Drawing} → i < k → k ≤ length bytes → run_from n m (examine σ source end (get_or bytes i 0) d) ≡ given j b
-        → run_from n m (each (examine σ source end) left d)
+        → run_from n m (each (examine σ source end) rest d)
         ≡ run_from j m (each (examine σ source end) (take (k - (i + 1)) (drop (i + 1) bytes)) b)
     unfolding each
     bytes-more h l e = ap (λ (bs : List ℕ). run_from n m (each (examine σ source end) bs d)) (one_more h l) ∙ bind-given n m _ _ e
@@ -101,13 +101,13 @@ module _ (n : ℕ) (m : List ℕ) (σ : CodeSettings) (source : Source) (end : �
     unfolding codes
     codes-none left h = ap (λ (i : ℕ). run_from n m (codes σ source end i p d)) h ∙ run-done _ _ _
 
-    pub codes-absent : (left : ℕ) → 0 < left → fetch m p.address ≡ Absent → run_from n m (codes σ source end left p d) ≡ refused (missing p)
+    pub codes-absent : (left : ℕ) → 0 < left → fetch m p.address ≡ None → run_from n m (codes σ source end left p d) ≡ refused (missing p)
     unfolding codes ◌>>=◌
     codes-absent zero h e = absurd (omega arith)
     codes-absent (suc zero) h e = ask-absent n m p _ e
     codes-absent (suc (suc k)) h e = ask-absent n m p _ e
 
-    module _ (x : ℕ) (e : fetch m p.address ≡ Word x) where
+    module _ (x : ℕ) (e : fetch m p.address ≡ Some x) where
       pub codes-refused : (left : ℕ) {y : Fault} → 0 < left → run_from (n + 1) m (word_codes σ source end (min left 2) x d) ≡ refused y
           → run_from n m (codes σ source end left p d) ≡ refused y
       unfolding codes ◌>>=◌

@@ -45,10 +45,9 @@ pub struct Pen {
     pub list: AttributeList,
 }
 
-// Where drawing went, with the words read so far; or the fault that it met, in three fields: a struct would lie across the pen's column,
-// and the compiler would then keep both in memory. Where its pointer begins has 64 bits, as the column has, for the same reason.
+// Where drawing went, with the words read so far.
 #[derive(Clone, Copy)]
-pub enum Drawn {
-    Accepted { pen: Pen, words: u32 },
-    Refused { number: u8, address: u32, from: u64 },
+pub struct Reached {
+    pub pen: Pen,
+    pub words: u32,
 }

@@ -30,13 +30,7 @@ pub fn anew(pen: Pen) -> Pen
 pub fn moved_to(column: usize, pen: Pen) -> Pen
     ensures { result ≡ moved_to column pen }
 {
-    let list = pen.list;
-    Pen {
-        column,
-        latch: pen.latch,
-        latched: pen.latched,
-        list,
-    }
+    Pen { column, ..pen }
 }
 
 // The pen with the list of an attribute pointer in use.
@@ -54,12 +48,7 @@ pub fn with_list(p: Pointer, pen: Pen) -> Pen
 pub fn using_list(list: AttributeList, pen: Pen) -> Pen
     ensures { result ≡ using_list list pen }
 {
-    Pen {
-        column: pen.column,
-        latch: pen.latch,
-        latched: pen.latched,
-        list,
-    }
+    Pen { list, ..pen }
 }
 
 // The pen where a row begins.
@@ -68,10 +57,7 @@ pub fn blank(latch: u16) -> Pen
 {
     let list = AttributeList {
         present: false,
-        next: Pointer {
-            address: 0,
-            from: 0,
-        },
+        next: Pointer::NULL,
     };
     Pen {
         column: 0,
@@ -85,26 +71,19 @@ pub fn blank(latch: u16) -> Pen
 pub fn take_word(linear: bool, w: u16, pen: Pen) -> Pen
     ensures { result ≡ taking linear w pen }
 {
-    let next = pen.list.next;
-    let list = AttributeList {
-        present: pen.list.present,
-        next: memory::onward(linear, next),
+    let rest = AttributeList {
+        next: memory::onward(linear, pen.list.next),
+        ..pen.list
     };
     if memory::bit_15(w) {
         Pen {
-            column: pen.column,
             latch: w,
             latched: true,
-            list,
+            list: rest,
+            ..pen
         }
     } else {
-        let kept = pen.latch;
-        Pen {
-            column: pen.column,
-            latch: kept,
-            latched: pen.latched,
-            list,
-        }
+        using_list(rest, pen)
     }
 }
 

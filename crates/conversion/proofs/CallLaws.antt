@@ -1,4 +1,5 @@
 -- The call: one law for each way through its definition.
+use Rattle.std.proofs.Common.{Ok}
 use mathlib.Core.Path.{◌≡◌}
 use mathlib.Core.Bool.{true, false}
 use mathlib.Core.List.{List}
@@ -9,7 +10,6 @@ use Rattle.memory.specs.declared.Refusal.{Refusal}
 use Rattle.memory.specs.Reading.{fault, refusal}
 use Rattle.settings.specs.declared.Settings.{Settings}
 use Rattle.settings.specs.Good.{good}
-use Rattle.converter.specs.declared.ConvertAnswer.TheVariants.{Accepted}
 use Rattle.converter.specs.Converter.{ended, stopped, follow, turned_memory, turned_settings, changes, register_changes, kept, convert_by, convert_call}
 use Rattle.conversion.specs.Answers.{called}
 
@@ -31,7 +31,7 @@ module _ (latch : ℕ) (σ : Settings) (m : List ℕ) (marks : ℕ) where
   was-stopped h g l e = rw (eq-eqb marks (length m) h, g, ← e, l)
 
   pub was-ended : {ks : List ℕ} → marks ≡ length m → good σ ≡ true → σ.linear ≡ false → ended ks ≡ follow latch σ m
-      → called (Accepted (record { settings = turned_settings σ; pointers = changes m (turned_memory ks m) + register_changes σ })) (turned_memory ks m)
+      → called (Ok (record { settings = turned_settings σ; pointers = changes m (turned_memory ks m) + register_changes σ })) (turned_memory ks m)
       ≡ convert_call latch σ m marks
   unfolding convert_call convert_by
   was-ended h g l e = rw (eq-eqb marks (length m) h, g, ← e, l)

@@ -1,61 +1,41 @@
 #![tactic(auto)]
 // The conversion of segmented lists (document 02, "Segmented memory goes away"): a frame is followed first, its words marked and nothing
 // changed; then one pass over the marks turns the first word of each pointer.
-ghost use Rattle.std.specs.Prelude.{◌≡◌, ◌+◌, ◌≤◌, length, replicate};
-ghost use Rattle.memory.specs.Reading.{fault, refusal};
-ghost use Rattle.converter.specs.Converter.{turned_first, turned, turned_memory, turned_register, turned_settings, change, changes, register_changes, convert_call};
-ghost use Rattle.converter.specs.declared.ConvertAnswer.TheVariants.{Refused};
+ghost use Rattle.std.specs.Prelude.{◌≡◌, ◌+◌, ◌≤◌, length};
+ghost use Rattle.converter.specs.Converter.{turned, turned_memory, turned_register, turned_settings, change, changes, register_changes, convert_call};
 ghost use Rattle.conversion.specs.Answers.{called};
 
-use converter::{Conversion, ConvertAnswer};
-use following::{Following, rows};
+use converter::Conversion;
+use following::rows;
 use memory::Refusal;
 use settings::{PointerWords, Settings};
 
 // Segmented lists turned into linear ones: the pointers that a frame from a latch reads, in `mem`, and TOP and TOW. `marks` has one mark
 // for each word, whatever it holds. Refusal 22, 2, 26, then as the walk meets them; a refusal changes nothing but marks.
-pub fn convert(settings: Settings, mem: &mut [u16], marks: &mut [u8], latch: u16) -> ConvertAnswer
+pub fn convert(
+    settings: Settings,
+    mem: &mut [u16],
+    marks: &mut [u8],
+    latch: u16,
+) -> Result<Conversion, Refusal>
     ensures { called result mem.new ≡ convert_call latch settings mem.old (length marks.old) }
 {
     if marks.len() != mem.len() {
-        return refused(22);
+        return memory::refused(22);
     }
     if !settings::is_good(settings) {
-        return refused(2);
+        return memory::refused(2);
     }
     if settings.linear {
-        return refused(26);
+        return memory::refused(26);
     }
-    clear(marks);
-    match rows::follow(settings, mem, marks, latch) {
-        Following::Stopped(refusal) => ConvertAnswer::Refused(refusal),
-        Following::Ended => {
-            let words = turn(mem, marks);
-            let turned = turned_settings(settings);
-            ConvertAnswer::Accepted(Conversion {
-                settings: turned,
-                pointers: words + register_changes(settings),
-            })
-        }
-    }
-}
-
-// The refusal of a check.
-fn refused(number: u8) -> ConvertAnswer
-    ensures { result ≡ Refused (refusal 0 (fault number)) }
-{
-    ConvertAnswer::Refused(memory::refusal_of(0, memory::fault_of(number)))
-}
-
-// No word is marked.
-fn clear(marks: &mut [u8])
-    ensures { marks.new ≡ replicate (length marks.old) 0 }
-{
-    let mut i = 0;
-    while i < marks.len() {
-        marks[i] = 0;
-        i += 1;
-    }
+    marks.fill(0);
+    rows::follow(settings, mem, marks, latch)?;
+    let words = turn(mem, marks);
+    Ok(Conversion {
+        settings: turned_settings(settings),
+        pointers: words + register_changes(settings),
+    })
 }
 
 // The first word of each pointer turned; how many words have changed.
@@ -64,13 +44,10 @@ fn turn(mem: &mut [u16], marks: &[u8]) -> u64
     ensures { (mem.new ≡ turned_memory marks.now mem.old) × (result ≡ changes mem.old (turned_memory marks.now mem.old)) × (result ≤ length mem.old) }
 {
     let mut count = 0;
-    let mut i = 0;
-    while i < mem.len() {
-        let old = mem[i];
-        let new = turned_word(marks[i], old);
-        mem[i] = new;
-        count += change(old, new);
-        i += 1;
+    for (i, word) in mem.iter_mut().enumerate() {
+        let old = *word;
+        *word = turned_word(marks[i], old);
+        count += change(old, *word);
     }
     count
 }
@@ -101,30 +78,15 @@ fn register_changes(settings: Settings) -> u64
 }
 
 // The settings, linear, with TOP and TOW turned.
+#[tactic(auto, unfolding(converter::specs::Converter::turned_settings))]
 fn turned_settings(settings: Settings) -> Settings
     ensures { result ≡ turned_settings settings }
 {
-    let interlace = settings.interlace;
-    let edition = settings.edition;
-    let top = turned_register(settings.top);
-    let tow = turned_register(settings.tow);
     Settings {
         linear: true,
-        hidden: settings.hidden,
-        interlace,
-        cursor: settings.cursor,
-        flag: settings.flag,
-        top,
-        tow,
-        vsw: settings.vsw,
-        vsd: settings.vsd,
-        val: settings.val,
-        vtot: settings.vtot,
-        hsync: settings.hsync,
-        hsd: settings.hsd,
-        htc: settings.htc,
-        htd: settings.htd,
-        edition,
+        top: turned_register(settings.top),
+        tow: turned_register(settings.tow),
+        ..settings
     }
 }
 

@@ -1,5 +1,6 @@
 -- What an accepted conversion gives is again what a script can come to, so its script is read as its image: the draw program prints the frame that
 -- the segmented list had, and every register is kept.
+use Rattle.std.proofs.Common.{Ok, Err}
 use mathlib.Core.Path.{◌≡◌, refl, ap, subst, subst⁻¹, ◌∙◌}
 use mathlib.Core.List.{List, [], ◌∷◌, ◌++◌}
 use Prim.Native.Nat.{ℕ, ◌<◌}
@@ -9,6 +10,7 @@ use Rattle.memory.proofs.ReadBounds.{if-cases}
 use Rattle.settings.specs.declared.Settings.{Settings}
 use Rattle.lines.specs.Lines.{refusal_line, script_line}
 use Rattle.frame.specs.Frame.{FrameRow, Frame, frame}
+use Rattle.text.specs.Form as Form
 use Rattle.text.specs.Text.{row_text, rows_text, last_line, frame_text}
 use Rattle.text.specs.Text as Draw
 use Rattle.script.specs.Script.{records, script}
@@ -19,7 +21,6 @@ use Rattle.image.specs.Image.{drawn, image_of, image}
 use Rattle.image.proofs.Ranged.{Kept, script-kept, kept-ranged, kept-settings}
 use Rattle.image.proofs.Again.{image-again, script-again}
 use Rattle.converter.specs.declared.Conversion.{Conversion}
-use Rattle.converter.specs.declared.ConvertAnswer.TheVariants.{Accepted, Refused}
 use Rattle.converter.specs.Below.{frame_below, frame_pointers}
 use Rattle.converter.specs.Converter.{turned_settings, convert_call}
 use Rattle.converter.specs.Conversions.{is_read, Turns}
@@ -30,16 +31,16 @@ use Rattle.convert_text.proofs.Turned.{turned-small, turned-sixteen, turned-fiel
 
 -- the text of a frame looks at no setting that is turned
 same_rows : (σ : Settings) (rows : List FrameRow) → rows_text (turned_settings σ) rows ≡ rows_text σ rows
-unfolding turned_settings rows_text
+unfolding turned_settings Form.rows_text
 same_rows σ [] = refl
 same_rows σ (r ∷ rows) = ap (◌++◌ (row_text σ r)) (same_rows σ rows)
 
 same_text : (σ : Settings) (f : Frame) → frame_text (turned_settings σ) f ≡ frame_text σ f
-unfolding frame_text
+unfolding Form.frame_text
 same_text σ f = ap (λ (rows : List ℕ). rows ++ last_line f.refusal (length f.rows) f.words) (same_rows σ f.rows)
 
 -- ---- an accepted conversion of what a script comes to ----
-module _ (latch : ℕ) (σ : Settings) (rs m : List ℕ) (k : Kept σ rs m) (c : Conversion) (e : (convert_call latch σ m (length m)).answer ≡ Accepted c) where
+module _ (latch : ℕ) (σ : Settings) (rs m : List ℕ) (k : Kept σ rs m) (c : Conversion) (e : (convert_call latch σ m (length m)).answer ≡ Ok c) where
   unfoldable pub after : List ℕ
   after = (convert_call latch σ m (length m)).memory
 
@@ -72,10 +73,10 @@ module _ (latch : ℕ) (σ : Settings) (rs m : List ℕ) (k : Kept σ rs m) (c :
   conversion-kept = subst⁻¹ (λ (τ : Settings). Kept τ (turned_registers rs) after) turns.settings turned-kept
 
   -- so its script is read as its image
-  converted-image : image (answer_text rs (Accepted c) after) ≡ drawn (image_of c.settings (turned_registers rs) after)
+  converted-image : image (answer_text rs (Ok c) after) ≡ drawn (image_of c.settings (turned_registers rs) after)
   converted-image = image-again (image_of c.settings (turned_registers rs) after) (kept-ranged conversion-kept)
 
-  converted-script : script (answer_text rs (Accepted c) after) ≡ Script.drawn c.settings after
+  converted-script : script (answer_text rs (Ok c) after) ≡ Script.drawn c.settings after
   converted-script =
       script-again (image_of c.settings (turned_registers rs) after) (kept-ranged conversion-kept)
       ∙ ap (λ (τ : Settings). Script.drawn τ after) (kept-settings conversion-kept)
@@ -94,7 +95,7 @@ module _ (bytes : List ℕ) (σ : Settings) (m : List ℕ) (s : script bytes ≡
   kept = subst (Draws (λ (τ : Settings) (n : List ℕ). Kept τ (registers_of bytes) n)) s (script-kept bytes)
 
   -- the image of the converter's output: the settings and the memory that the conversion gives, and the script's registers, turned
-  pub image-turned : (c : Conversion) → (convert_call 0 σ m (length m)).answer ≡ Accepted c
+  pub image-turned : (c : Conversion) → (convert_call 0 σ m (length m)).answer ≡ Ok c
       → image (output bytes) ≡ drawn (image_of c.settings (turned_registers (registers_of bytes)) (convert_call 0 σ m (length m)).memory)
   unfolding output called_text after
   image-turned c e = rw (s, e) (converted-image 0 σ (registers_of bytes) m kept c e)
@@ -105,14 +106,14 @@ module _ (bytes : List ℕ) (σ : Settings) (m : List ℕ) (s : script bytes ≡
 
   -- the draw program's output of the converter's is the text of the frame that the segmented list has, as the rules below the checks on the
   -- settings draw it
-  pub drawn-again : (c : Conversion) → (convert_call 0 σ m (length m)).answer ≡ Accepted c → Draw.output (output bytes) ≡ frame_text σ (frame_below 0 σ m)
+  pub drawn-again : (c : Conversion) → (convert_call 0 σ m (length m)).answer ≡ Ok c → Draw.output (output bytes) ≡ frame_text σ (frame_below 0 σ m)
   unfolding Draw.output output called_text after
   drawn-again c e =
       rw (s, e)
       (ap Draw.outcome_text (converted-script 0 σ (registers_of bytes) m kept c e) ∙ same-frame 0 σ (registers_of bytes) m kept c e)
 
   -- a refusal is its line
-  pub refused-line : (r : Refusal) → (convert_call 0 σ m (length m)).answer ≡ Refused r → output bytes ≡ refusal_line r
+  pub refused-line : (r : Refusal) → (convert_call 0 σ m (length m)).answer ≡ Err r → output bytes ≡ refusal_line r
   unfolding output called_text
   refused-line r e = rw (s, e)
 

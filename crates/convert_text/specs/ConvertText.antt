@@ -1,19 +1,19 @@
 -- Document 02, "Segmented memory goes away": the text of a converted list, what its conversion leaves, and the text of a script's bytes.
-use Rattle.std.specs.Prelude.{ℕ, List, length}
+use Rattle.std.specs.Prelude.{ℕ, List, length, Result, Ok, Err}
+use Rattle.memory.specs.declared.Refusal.{Refusal}
 use Rattle.lines.specs.Lines.{refusal_line, script_line}
 use Rattle.script.specs.Script.{Outcome, drawn, refused_at, script}
 use Rattle.image.specs.Registers.{registers_of}
 use Rattle.image.specs.Image.{image_of}
 use Rattle.image.specs.Written.{written}
-use Rattle.converter.specs.declared.ConvertAnswer.{ConvertAnswer}
-use Rattle.converter.specs.declared.ConvertAnswer.TheVariants.{Accepted, Refused}
 use Rattle.converter.specs.Converter.{Called, convert_call}
+use Rattle.converter.specs.declared.Conversion.{Conversion}
 use Rattle.convert_text.specs.Registers.{turned_registers}
 
 -- the script of what a conversion gives, with the registers of the script before, turned; or the line of its refusal
-abbrev pub answer_text : (registers : List ℕ) → ConvertAnswer → List ℕ → List ℕ
-answer_text rs (Accepted c) m = written (image_of c.settings (turned_registers rs) m)
-answer_text rs (Refused r) m = refusal_line r
+abbrev pub answer_text : (registers : List ℕ) → Result Conversion Refusal → List ℕ → List ℕ
+answer_text rs (Ok c) m = written (image_of c.settings (turned_registers rs) m)
+answer_text rs (Err r) m = refusal_line r
 
 unfoldable pub called_text : (registers : List ℕ) → Called → List ℕ
 called_text rs c = answer_text rs c.answer c.memory
@@ -32,9 +32,9 @@ abbrev pub left : (registers memory : List ℕ) → Left
 left rs m = record { registers = rs; memory = m }
 
 -- an accepted one turns the registers, and "A refusal changes nothing but marks."
-abbrev pub registers_after : (registers : List ℕ) → ConvertAnswer → List ℕ
-registers_after rs (Accepted c) = turned_registers rs
-registers_after rs (Refused r) = rs
+abbrev pub registers_after : (registers : List ℕ) → Result Conversion Refusal → List ℕ
+registers_after rs (Ok c) = turned_registers rs
+registers_after rs (Err r) = rs
 
 unfoldable pub called_left : (registers : List ℕ) → Called → Left
 called_left rs c = left (registers_after rs c.answer) c.memory

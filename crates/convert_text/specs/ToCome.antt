@@ -1,11 +1,11 @@
--- What of a text is still to come, and what a call for its next piece gives. No rules of their own.
-use Rattle.std.specs.Prelude.{ℕ, ◌≡◌, List, []}
+-- What of a text is still to come. No rules of their own.
+use Rattle.std.specs.Prelude.{ℕ, List, [], Option}
 use Rattle.lines.specs.Lines.{refusal_line, script_line}
-use Rattle.image.specs.ToCome.{Writes}
+use Rattle.lines.specs.declared.Piece.{Piece}
+use Rattle.lines.specs.Pieces as Pieces
 use Rattle.image.specs.ToCome as Image
 use Rattle.convert_text.specs.declared.Text.{Text}
 use Rattle.convert_text.specs.declared.Text.TheVariants.{Script, Refused, NoScript, Ended}
-use Rattle.convert_text.specs.declared.Piece.{Piece}
 
 unfoldable pub to_come : (registers memory : List ℕ) → Text → List ℕ
 to_come rs m (Script t) = Image.to_come rs m t
@@ -21,6 +21,5 @@ calls (NoScript n) = 1
 calls Ended = 0
 
 -- a call gives the next piece, or says that the text is at its end
-abbrev pub Next : (registers memory : List ℕ) → Text → Piece → (buffer : List ℕ) → Type 0
-Next rs m t (Piece.Written n u) buffer = Writes n buffer (to_come rs m t) (to_come rs m u) (calls t) (calls u)
-Next rs m t Piece.AtEnd buffer = to_come rs m t ≡ []
+abbrev pub Next : (registers memory : List ℕ) → Text → Option (Piece Text) → (buffer : List ℕ) → Type 0
+Next rs m = Pieces.Next (to_come rs m) calls

@@ -5,9 +5,9 @@ ghost use Rattle.script.specs.Feeding.{stepped, outcome};
 ghost use Rattle.converter.specs.Converter.{convert_call};
 ghost use Rattle.convert_text.specs.Registers.{turned_registers};
 ghost use Rattle.convert_text.specs.ConvertText.{called_text, outcome_text, left, called_left, outcome_left};
-ghost use Rattle.convert_text.specs.ToCome.{to_come, Next};
+ghost use Rattle.convert_text.specs.ToCome.{to_come, calls, Next};
 
-use converter::ConvertAnswer;
+use lines::{Piece, Pieces};
 use memory::Refusal;
 use script::Step;
 use settings::Settings;
@@ -21,11 +21,11 @@ pub enum Text {
     Ended,
 }
 
-// `count` bytes of the text, with the text after them; or that it is at its end.
+// The registers and the memory of a script.
 #[derive(Clone, Copy)]
-pub enum Piece {
-    Written { count: usize, text: Text },
-    AtEnd,
+pub struct Contents {
+    pub registers: [u16; 25],
+    pub mem: [u16; 16384],
 }
 
 // The text of a script, from where its bytes led; its input ends here. The list that it draws is converted in `registers` and `mem`.
@@ -47,12 +47,11 @@ fn begin_converted(settings: Settings, registers: &mut [u16; 25], mem: &mut [u16
 {
     let mut marks = [0u8; 16384];
     match conversion::convert(settings, mem, &mut marks, 0) {
-        ConvertAnswer::Accepted(accepted) => {
+        Ok(accepted) => {
             turn_registers(registers);
-            let turned = accepted.settings;
-            Text::Script(image::Text::Head(image::switches_of(turned)))
+            Text::Script(image::Text::Head(image::switches_of(accepted.settings)))
         }
-        ConvertAnswer::Refused(refusal) => Text::Refused(refusal),
+        Err(refusal) => Text::Refused(refusal),
     }
 }
 
@@ -66,26 +65,43 @@ fn turn_registers(registers: &mut [u16; 25])
     registers[0x0b] = registers[0x0b] / 256 % 128;
 }
 
-// The next piece of a text, at the start of `out`.
-pub fn next(text: Text, registers: &[u16; 25], mem: &[u16; 16384], out: &mut [u8; 2048]) -> Piece
+impl Pieces for Text {
+    type Of = Contents;
+
+    ghost to_come = { λ c. to_come c.registers c.mem };
+
+    ghost calls = { calls };
+
+    fn next(self, of: &Contents, out: &mut [u8; 2048]) -> Option<Piece<Text>> {
+        next(self, &of.registers, &of.mem, out)
+    }
+}
+
+// The next piece of a text, at the start of `out`; or that it is at its end.
+pub fn next(
+    text: Text,
+    registers: &[u16; 25],
+    mem: &[u16; 16384],
+    out: &mut [u8; 2048],
+) -> Option<Piece<Text>>
     ensures { Next registers.now mem.now text result out.new }
 {
     match text {
-        Text::Script(t) => match image::next(t, registers, mem, out) {
-            image::Piece::Written { count, text: after } => Piece::Written {
+        Text::Script(t) => {
+            let Piece { count, after } = image::next(t, registers, mem, out)?;
+            Some(Piece {
                 count,
-                text: Text::Script(after),
-            },
-            image::Piece::AtEnd => Piece::AtEnd,
-        },
-        Text::Refused(refusal) => Piece::Written {
+                after: Text::Script(after),
+            })
+        }
+        Text::Refused(refusal) => Some(Piece {
             count: lines::refusal_line(refusal, out),
-            text: Text::Ended,
-        },
-        Text::NoScript(offset) => Piece::Written {
+            after: Text::Ended,
+        }),
+        Text::NoScript(offset) => Some(Piece {
             count: lines::script_line(offset, out),
-            text: Text::Ended,
-        },
-        Text::Ended => Piece::AtEnd,
+            after: Text::Ended,
+        }),
+        Text::Ended => None,
     }
 }

@@ -1,4 +1,5 @@
 -- Blocks and windows of a segmented list and of its linear one are the same, and have pointers that stand.
+use Rattle.std.proofs.Common.{Option, Some, None}
 use mathlib.Core.Path.{◌≡◌, refl, ap, ap₂, sym, ◌∙◌}
 use mathlib.Core.Bool.{Bool, true, false, ◌&&◌}
 use mathlib.Core.List.{List, [], ◌∷◌}
@@ -15,9 +16,8 @@ use Rattle.blocks.specs.declared.RowFormat.{RowFormat}
 use Rattle.blocks.specs.declared.Segment.{Segment}
 use Rattle.blocks.specs.Main.{main_block, main_block_at}
 use Rattle.blocks.specs.RowBlock.{RowBlock, segment_of, segments_at, segment_roles, segments_from, rest_of_block, block_at, format_of, redefined}
-use Rattle.windows.specs.declared.WindowInHand.{WindowInHand}
-use Rattle.windows.specs.declared.WindowInHand.TheVariants.{Absent, Present}
 use Rattle.windows.specs.Window.{window_of, two_pointers, in_order, window_at, due_window}
+use Rattle.windows.specs.declared.Window.{Window}
 use Rattle.told.proofs.Tells.{apart}
 use Rattle.holding.proofs.Holds.{Each}
 use Rattle.converter.proofs.Alike.{Same, Alike, dones, bind, check-of-then, if-alike}
@@ -73,9 +73,9 @@ module _ (m : List ℕ) (b : Words m) where
     pub segments : Each Pointed x.segments
 
   -- a window in hand
-  abbrev pub WindowStands : WindowInHand → Type 0
-  WindowStands Absent = Unit
-  WindowStands (Present w) = Stands m b w.block.link × Stands m b w.rows
+  abbrev pub WindowStands : Option Window → Type 0
+  WindowStands None = Unit
+  WindowStands (Some w) = Stands m b w.block.link × Stands m b w.rows
 
   module _ (held : ℕ) where
     -- a reading that gives the same on both sides
@@ -180,7 +180,7 @@ module _ (m : List ℕ) (b : Words m) where
     window_same number a ws vs h =
         rw (pointer-same m b a a two_pointers 6 ws vs h 0 (lit< tt) refl refl, pointer-same m b a a two_pointers 6 ws vs h 2 (lit< tt) refl refl, plain_word {rs = two_pointers} {ws = ws} {vs = vs} refl (h 4 (lit< tt)), plain_word {rs = two_pointers} {ws = ws} {vs = vs} refl (h 5 (lit< tt)))
 
-    window-stands : (number a : ℕ) (ws vs : List ℕ) → Copied m b a a two_pointers 6 ws vs → WindowStands (Present (window_of false number a ws))
+    window-stands : (number a : ℕ) (ws vs : List ℕ) → Copied m b a a two_pointers 6 ws vs → WindowStands (Some (window_of false number a ws))
     unfolding window_of ahead
     window-stands number a ws vs h =
         (pointer-stands m b a a two_pointers 6 ws vs h 0 (lit< tt) refl refl, pointer-stands m b a a two_pointers 6 ws vs h 2 (lit< tt) refl refl)
@@ -196,9 +196,9 @@ module _ (m : List ℕ) (b : Words m) where
         check-of-then held m 8 p (in_order w.block && leb least w.block.top) λ _ _.
         dones (record { equal = refl; holds = window-stands number p.address ws vs x.copied }))
 
-    pub due-alike : (c row : ℕ) (w : WindowInHand) → WindowStands w → Gives WindowStands c (due_window false row w) (due_window true row w)
+    pub due-alike : (c row : ℕ) (w : Option Window) → WindowStands w → Gives WindowStands c (due_window false row w) (due_window true row w)
     unfolding due_window
-    due-alike c row Absent s = dones (record { equal = refl; holds = tt })
-    due-alike c row (Present w) s =
+    due-alike c row None s = dones (record { equal = refl; holds = tt })
+    due-alike c row (Some w) s =
         if-alike held m (ltb w.block.bottom row) (λ _. window-alike c _ _ w.block.link (first-stood m b held c w.block.link s.0))
         λ _. dones (record { equal = refl; holds = s })

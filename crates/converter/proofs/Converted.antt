@@ -1,4 +1,5 @@
 -- Every accepted conversion keeps the frame: its settings were good and segmented, and the frame was followed to its end.
+use Rattle.std.proofs.Common.{Ok}
 use mathlib.Core.Path.{◌≡◌, refl, ap, ap₂, sym, subst, ◌∙◌}
 use mathlib.Core.Bool.{Bool, true, false, ◌&&◌}
 use mathlib.Core.List.{List}
@@ -19,7 +20,6 @@ use Rattle.settings.specs.declared.Edition.TheVariants.{Am8052, Z8052}
 use Rattle.settings.specs.Good.{in_range, in_order, fits_mode, fits_edition, good}
 use Rattle.frame.specs.Frame.{Frame, frame}
 use Rattle.converter.specs.declared.Conversion.{Conversion}
-use Rattle.converter.specs.declared.ConvertAnswer.TheVariants.{Accepted}
 use Rattle.converter.specs.Below.{frame_below, frame_read, frame_pointers}
 use Rattle.converter.specs.Converter.{Followed, ended, stopped, follow, turned_first, turned, turned_memory, turned_settings, changes, register_changes, Called, kept, convert_by, convert_call}
 use Rattle.converter.specs.Conversions.{is_read, Turns, Sixteen, AllTurn}
@@ -88,7 +88,7 @@ record Accepts (σ : Settings) (m : List ℕ) (g l : Bool) (f : Followed) (c : C
   pointers : c.pointers ≡ changes m (turned_memory fin m) + register_changes σ
 
 module _ (σ : Settings) (m : List ℕ) where
-  by-followed : (f : Followed) {c : Conversion} → (convert_by σ m f).answer ≡ Accepted c → Accepts σ m true false f c (convert_by σ m f).memory
+  by-followed : (f : Followed) {c : Conversion} → (convert_by σ m f).answer ≡ Ok c → Accepts σ m true false f c (convert_by σ m f).memory
   unfolding convert_by
   by-followed (ended marks) {c} e =
       let same : record { settings = turned_settings σ; pointers = changes m (turned_memory marks m) + register_changes σ } ≡ c = cc in
@@ -96,14 +96,14 @@ module _ (σ : Settings) (m : List ℕ) where
   by-followed (stopped r) e = let q : ◌≡◌ {A = ℕ} 0 1 = cc in absurd (omega arith)
 
   by_tests : (t g l : Bool) (f : Followed) (x y z : Refusal) {c : Conversion}
-      → (when t then (when g then (when l then kept m x else convert_by σ m f) else kept m y) else kept m z).answer ≡ Accepted c
+      → (when t then (when g then (when l then kept m x else convert_by σ m f) else kept m y) else kept m z).answer ≡ Ok c
       → Accepts σ m g l f c (when t then (when g then (when l then kept m x else convert_by σ m f) else kept m y) else kept m z).memory
   by_tests true true false f x y z e = by-followed f e
   by_tests false g l f x y z e = let q : ◌≡◌ {A = ℕ} 0 1 = cc in absurd (omega arith)
   by_tests true false l f x y z e = let q : ◌≡◌ {A = ℕ} 0 1 = cc in absurd (omega arith)
   by_tests true true true f x y z e = let q : ◌≡◌ {A = ℕ} 0 1 = cc in absurd (omega arith)
 
-  accepts : (latch marks : ℕ) {c : Conversion} → (convert_call latch σ m marks).answer ≡ Accepted c
+  accepts : (latch marks : ℕ) {c : Conversion} → (convert_call latch σ m marks).answer ≡ Ok c
       → Accepts σ m (good σ) σ.linear (follow latch σ m) c (convert_call latch σ m marks).memory
   unfolding convert_call
   accepts latch marks e =

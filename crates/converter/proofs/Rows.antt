@@ -1,4 +1,5 @@
 -- A start and a row of a segmented list and of its linear one: the same state and the same row, whose pointers stand.
+use Rattle.std.proofs.Common.{Option, Some, None}
 use mathlib.Core.Path.{◌≡◌, refl, sym}
 use mathlib.Core.Bool.{Bool, true, false, not, ◌&&◌}
 use mathlib.Core.List.{List}
@@ -13,8 +14,6 @@ use Rattle.settings.specs.declared.Settings.{Settings}
 use Rattle.settings.specs.Timing.{lines_for_rows}
 use Rattle.blocks.specs.declared.MainBlock.{MainBlock}
 use Rattle.blocks.specs.RowBlock.{row_block_at, window_row_at}
-use Rattle.windows.specs.declared.WindowInHand.{WindowInHand}
-use Rattle.windows.specs.declared.WindowInHand.TheVariants.{Absent, Present}
 use Rattle.windows.specs.Window.{first_window}
 use Rattle.state.specs.declared.Fields.{Fields}
 use Rattle.state.specs.declared.State.{State}
@@ -24,6 +23,7 @@ use Rattle.layout.specs.Overlay.{Overlaid, window_row, overlaid}
 use Rattle.background.specs.Background.{background_block, background_row}
 use Rattle.plan.specs.Plan.{Plan, next_fields, from_state}
 use Rattle.codes.specs.Codes.{Drawing, blank}
+use Rattle.windows.specs.declared.Window.{Window}
 use Rattle.start.specs.Top.{registered, enabled, of_window, top_block}
 use Rattle.start.specs.Start.{first_fields, window_start}
 use Rattle.row.specs.Row.{Row, drawn_by}
@@ -108,11 +108,11 @@ module _ (m : List ℕ) (b : Words m) where
       overlay : OverlayStands m b o.overlay
       window : WindowStands m b o.window
 
-    overlaid-alike : (c row : ℕ) (w : WindowInHand) → WindowStands m b w
+    overlaid-alike : (c row : ℕ) (w : Option Window) → WindowStands m b w
         → Gives m b 0 Shown c (overlaid (segmented σ) row w) (overlaid (turned_settings σ) row w)
     unfolding overlaid window_row window_row_at turned_settings
-    overlaid-alike c row Absent s = dones (record { equal = refl; holds = record { overlay = tt; window = tt } })
-    overlaid-alike c row (Present w) s =
+    overlaid-alike c row None s = dones (record { equal = refl; holds = record { overlay = tt; window = tt } })
+    overlaid-alike c row (Some w) s =
         if-alike 0 m (leb w.block.top row && leb row w.block.bottom)
         (λ _. bind-same 0 m (block-alike m b 0 c false w.rows s.1) λ n x _ h.
         check-of-then 0 m 9 w.rows (all_fit x.segments) λ _ _.

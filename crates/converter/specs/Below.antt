@@ -1,9 +1,10 @@
 -- A frame below its checks on the settings: a start's main block and window, and rows from their states on, as the calls draw them once
 -- checks on the settings are met. The converter follows these; a segmented frame is one.
-use Rattle.std.specs.Prelude.{ℕ, zero, suc, ◌/◌, List, [], ◌∷◌, ◌++◌, length, get_or, ltb, eqb}
+use Rattle.std.specs.Prelude.{ℕ, zero, suc, ◌/◌, List, [], ◌∷◌, ◌++◌, length, get_or, ltb, eqb, Result, Ok, Err}
 use Rattle.std.proofs.Math.Option.{none}
 use Rattle.memory.specs.Word.{when◌then◌else◌}
 use Rattle.memory.specs.Reading.{Role, First, Second, Other, Reading, done, refuse, ask, ◌>>=◌, Outcome, given, refused, run, asked}
+use Rattle.memory.specs.declared.Refusal.{Refusal}
 use Rattle.settings.specs.declared.Settings.{Settings}
 use Rattle.state.specs.declared.State.{State}
 use Rattle.state.specs.State.{state_of}
@@ -11,8 +12,6 @@ use Rattle.plan.specs.Plan.{from_state}
 use Rattle.start.specs.Start.{main_start, started}
 use Rattle.row.specs.Row.{Row, from_plan, Called, answered}
 use Rattle.frame.specs.declared.Progress.{Progress}
-use Rattle.frame.specs.declared.BeginAnswer.{BeginAnswer}
-use Rattle.frame.specs.declared.BeginAnswer.TheVariants as Begin
 use Rattle.frame.specs.declared.StepAnswer.TheVariants.{Ended}
 use Rattle.frame.specs.Step.{begun, Stepped, stepped, row_step}
 use Rattle.frame.specs.Frame.{Frame, stopped, not_started, by_step, blank}
@@ -36,9 +35,9 @@ unfoldable pub within_below : ℕ → Settings → List ℕ → Progress → Fra
 within_below zero σ m p = stopped none p
 within_below (suc n) σ m p = by_step (within_below n σ m) p (step_below σ m p)
 
-abbrev pub from_begun : Settings → List ℕ → BeginAnswer → Frame
-from_begun σ m (Begin.Begun p) = within_below p.state.fields.left σ m p
-from_begun σ m (Begin.Refused r) = not_started r
+abbrev pub from_begun : Settings → List ℕ → Result Progress Refusal → Frame
+from_begun σ m (Ok p) = within_below p.state.fields.left σ m p
+from_begun σ m (Err r) = not_started r
 
 unfoldable pub frame_below : ℕ → Settings → List ℕ → Frame
 frame_below latch σ m = from_begun σ m (begun (started (run m (main_start latch σ))))

@@ -1,13 +1,13 @@
 -- Converter cases, computed: P3 and P4 ("P3 and P4 keep their segmented halves as converter cases"), the order of the checks, and each
 -- refusal of its own.
-use Rattle.std.specs.Prelude.{ℕ, Bool, true, false, ◌&&◌, List, [], ◌∷◌, ◌++◌, length, replicate, eqb}
+use Rattle.std.specs.Prelude.{ℕ, Bool, true, false, ◌&&◌, List, [], ◌∷◌, ◌++◌, length, replicate, eqb, Result, Ok, Err}
 use Rattle.memory.specs.Address.{pointer}
+use Rattle.memory.specs.declared.Refusal.{Refusal}
 use Rattle.settings.specs.declared.Edition.TheVariants.{Am8052}
 use Rattle.settings.specs.declared.Interlace.TheVariants.{Progressive}
 use Rattle.settings.specs.declared.Settings.{Settings}
-use Rattle.converter.specs.declared.ConvertAnswer.{ConvertAnswer}
-use Rattle.converter.specs.declared.ConvertAnswer.TheVariants.{Accepted, Refused}
 use Rattle.converter.specs.Converter.{turned_first, Called, convert_call}
+use Rattle.converter.specs.declared.Conversion.{Conversion}
 
 -- are two lists of numbers the same?
 unfoldable pub same : List ℕ → List ℕ → Bool
@@ -42,9 +42,9 @@ screen linear first second vtot = record {
 }
 
 -- what a conversion answers: the count of pointers, or a refusal; and whether the memory is then another
-unfoldable pub answered : ConvertAnswer → List ℕ
-answered (Accepted c) = c.pointers ∷ c.settings.top.first ∷ c.settings.top.second ∷ c.settings.tow.first ∷ []
-answered (Refused r) = r.number ∷ r.row ∷ r.address ∷ r.from ∷ []
+unfoldable pub answered : Result Conversion Refusal → List ℕ
+answered (Ok c) = c.pointers ∷ c.settings.top.first ∷ c.settings.top.second ∷ c.settings.tow.first ∷ []
+answered (Err r) = r.number ∷ r.row ∷ r.address ∷ r.from ∷ []
 
 unfoldable pub shown : Called → List ℕ
 shown c = answered c.answer ++ c.memory

@@ -1,5 +1,5 @@
 -- Document 02, "Segmented memory goes away": what holds of every accepted conversion.
-use Rattle.std.specs.Prelude.{ℕ, ◌+◌, ◌/◌, ◌<◌, ◌≡◌, Bool, true, false, ◌||◌, List, [], ◌∷◌, length, get_or, eqb}
+use Rattle.std.specs.Prelude.{ℕ, ◌+◌, ◌/◌, ◌<◌, ◌≡◌, Bool, true, false, ◌||◌, List, [], ◌∷◌, length, get_or, eqb, Ok, Err}
 use Rattle.std.proofs.Math.Option.{none}
 use Rattle.memory.specs.declared.Pointer.{Pointer}
 use Rattle.memory.specs.Word.{when◌then◌else◌}
@@ -8,7 +8,6 @@ use Rattle.memory.specs.Address.{pointer, place, ahead, further}
 use Rattle.settings.specs.declared.Settings.{Settings}
 use Rattle.frame.specs.Frame.{frame}
 use Rattle.converter.specs.declared.Conversion.{Conversion}
-use Rattle.converter.specs.declared.ConvertAnswer.TheVariants.{Accepted, Refused}
 use Rattle.converter.specs.Walk.{points_at, read_on, over_page_end}
 use Rattle.converter.specs.Below.{frame_below, frame_read, frame_pointers}
 use Rattle.converter.specs.Converter.{turned_first, turned_settings, changes, register_changes, convert_call}
@@ -37,7 +36,7 @@ pub record Turns (latch : ℕ) (σ : Settings) (m after : List ℕ) (c : Convers
   -- "counting those whose words change"
   pub counted : c.pointers ≡ changes m after + register_changes σ
   -- what is linear is not turned again
-  pub once : (latch₂ : ℕ) (m₂ : List ℕ) → (convert_call latch₂ c.settings m₂ (length m₂)).answer ≡ Refused (refusal 0 (fault 26))
+  pub once : (latch₂ : ℕ) (m₂ : List ℕ) → (convert_call latch₂ c.settings m₂ (length m₂)).answer ≡ Err (refusal 0 (fault 26))
 
 -- Refusal 18, "a block or list read on over its page end (address of the page's last word)": of 12,000 words from where a pointer
 -- points on the first has none, and each next has it exactly where the word before is its page's last, whose address is told
@@ -59,4 +58,4 @@ Sixteen σ m = ((i : ℕ) → get_or m i 0 < 65536) × (σ.top.second < 65536) �
 
 abbrev pub AllTurn : Type 0
 AllTurn = (latch : ℕ) (σ : Settings) (m : List ℕ) (marks : ℕ) (c : Conversion) → Sixteen σ m
-    → (convert_call latch σ m marks).answer ≡ Accepted c → Turns latch σ m (convert_call latch σ m marks).memory c
+    → (convert_call latch σ m marks).answer ≡ Ok c → Turns latch σ m (convert_call latch σ m marks).memory c

@@ -1,5 +1,5 @@
 -- Document 02, "Segmented memory goes away": the converter.
-use Rattle.std.specs.Prelude.{ℕ, zero, suc, ◌+◌, ◌/◌, ◌%◌, true, false, List, [], ◌∷◌, length, replicate, eqb}
+use Rattle.std.specs.Prelude.{ℕ, zero, suc, ◌+◌, ◌/◌, ◌%◌, true, false, List, [], ◌∷◌, length, replicate, eqb, Result, Ok, Err}
 use Rattle.memory.specs.Word.{when◌then◌else◌}
 use Rattle.memory.specs.declared.Refusal.{Refusal}
 use Rattle.memory.specs.Reading.{First, fault, refusal}
@@ -10,10 +10,9 @@ use Rattle.blocks.specs.declared.MainBlock.{MainBlock}
 use Rattle.state.specs.declared.State.{State}
 use Rattle.start.specs.Top.{registered, top_block}
 use Rattle.start.specs.Start.{window_start}
-use Rattle.converter.specs.declared.ConvertAnswer.{ConvertAnswer}
-use Rattle.converter.specs.declared.ConvertAnswer.TheVariants.{Accepted, Refused}
 use Rattle.converter.specs.Walk.{mark, Walked, went, halted, walk}
 use Rattle.converter.specs.Below.{row_below, state_after}
+use Rattle.converter.specs.declared.Conversion.{Conversion}
 
 -- ---- the walk over a frame ----
 -- what following the frame comes to: the marks at its end, or the refusal that it meets
@@ -98,18 +97,18 @@ register_changes σ = change σ.top.first (turned_first σ.top.first) + change �
 -- ---- the call ----
 -- its answer, and what the memory then holds
 pub record Called : Type 0 where
-  pub answer : ConvertAnswer
+  pub answer : Result Conversion Refusal
   pub memory : List ℕ
 
 -- "A refusal changes nothing but marks."
 abbrev pub kept : List ℕ → Refusal → Called
-kept m r = record { answer = Refused r; memory = m }
+kept m r = record { answer = Err r; memory = m }
 
 unfoldable pub convert_by : Settings → List ℕ → Followed → Called
 convert_by σ m (stopped r) = kept m r
 convert_by σ m (ended marks) =
     let after : List ℕ = turned_memory marks m in
-    record { answer = Accepted (record { settings = turned_settings σ; pointers = changes m after + register_changes σ }); memory = after }
+    record { answer = Ok (record { settings = turned_settings σ; pointers = changes m after + register_changes σ }); memory = after }
 
 -- "22, another number of marks, first; 26, linear settings, after 2"; then as the walk meets them. `marks` is the number of marks lent.
 unfoldable pub convert_call : ℕ → Settings → List ℕ → (marks : ℕ) → Called

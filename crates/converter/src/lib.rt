@@ -1,7 +1,6 @@
 #![tactic(auto)]
 // The converter: segmented display lists turned into linear ones (document 02, "Segmented memory goes away"). specs/ says what it gives;
 // proofs/ shows that the linear frame after an accepted conversion is the segmented one before.
-use memory::Refusal;
 use settings::Settings;
 
 // An accepted conversion: the settings, linear, with TOP and TOW turned, and how many pointers have another first word than before.
@@ -9,11 +8,4 @@ use settings::Settings;
 pub struct Conversion {
     pub settings: Settings,
     pub pointers: u64,
-}
-
-// A conversion, or its refusal: then settings and memory stay.
-#[derive(Clone, Copy)]
-pub enum ConvertAnswer {
-    Accepted(Conversion),
-    Refused(Refusal),
 }

@@ -1,5 +1,6 @@
 -- A frame depends on the words that it read: of two memories of one length that agree on them, frame and lists are the same; and so the
 -- row beside its cut.
+use Rattle.std.proofs.Common.{Err}
 use mathlib.Core.Path.{◌≡◌, refl, sym, ap, ◌∙◌}
 use mathlib.Core.Bool.{Bool, true, false}
 use mathlib.Core.List.{List, [], ◌∷◌, ◌++◌}
@@ -18,7 +19,6 @@ use Rattle.state.specs.declared.State.{State}
 use Rattle.start.specs.Start.{start_from, started, start_call}
 use Rattle.row.specs.Row.{row}
 use Rattle.frame.specs.Frame.{blank, frame}
-use Rattle.beside.specs.declared.BesideAnswer.TheVariants.{Refused}
 use Rattle.beside.specs.Beside.{BesideCalled, beside_called, told_call, row_below, after_start, row_above, with_top, beside_call}
 use Rattle.desks.specs.Finds.{words_read, Finds, later, Buffers, frame_lent, frame_over, lists, joined, reads_of, beside_read}
 use Rattle.desks.proofs.ReadLaws.{all_in, read_all, read-words}
@@ -90,7 +90,7 @@ module _ (m₁ m₂ : List ℕ) (len : length m₁ ≡ length m₂) where
   unfolding row_above start_call
   above_same σ latch b k =
       let h = read_all m₁ m₂ len (asked m₁ (start_from latch σ >>= row σ)) k in
-      ap (λ (c : BesideCalled). when eqb (length b) 132 then c else beside_called (Refused (refusal 0 (fault 1))) b)
+      ap (λ (c : BesideCalled). when eqb (length b) 132 then c else beside_called (Err (refusal 0 (fault 1))) b)
       (by-start h (run m₁ (start_from latch σ)) refl
       ∙ ap (λ o. after_start σ m₂ b (started o)) (same_outcome m₁ m₂ len (start_from latch σ) 0 (asked-first m₁ (row σ) (start_from latch σ) h)))
     where

@@ -1,4 +1,5 @@
 -- What a frame depends on: a frame and its lists are the same on memories that agree, call by call, on the words that it read.
+use Rattle.std.proofs.Common.{Result, Ok, Err}
 use mathlib.Core.Path.{◌≡◌, refl, sym, ap, ap₂, ◌∙◌}
 use mathlib.Core.Bool.{Bool, true, false}
 use mathlib.Core.List.{List, [], ◌∷◌}
@@ -10,13 +11,12 @@ use borrow.Author.Tests.{eqb-true}
 use Rattle.memory.specs.Word.{when◌then◌else◌}
 use Rattle.memory.specs.Reading.{fault, refusal}
 use Rattle.memory.proofs.Agree.{All, SameWord}
+use Rattle.memory.specs.declared.Refusal.{Refusal}
 use Rattle.settings.specs.declared.Settings.{Settings}
 use Rattle.state.specs.declared.State.{State}
 use Rattle.start.specs.Start.{start_from, started}
 use Rattle.row.specs.Row.{row, row_call}
 use Rattle.frame.specs.declared.Progress.{Progress}
-use Rattle.frame.specs.declared.BeginAnswer.{BeginAnswer}
-use Rattle.frame.specs.declared.BeginAnswer.TheVariants as Begin
 use Rattle.frame.specs.declared.StepAnswer.{StepAnswer}
 use Rattle.frame.specs.declared.StepAnswer.TheVariants.{Drawn, Ended, Refused}
 use Rattle.frame.specs.Step.{begun, begin, Stepped, stepped, step}
@@ -138,10 +138,10 @@ module _ (σ : Settings) where
         addresses = ap₂ ◌∷◌ (read-words (ms₁ 0) (ms₂ 0) (len 0) (start_from latch σ) h) (r.addresses ∙ ap (from_begin_lists σ (later ms₂)) e);
       }
     where
-      by-start : (x : BeginAnswer) → Agree (later ms₁) (later ms₂) (from_begin_lists σ (later ms₁) x)
+      by-start : (x : Result Progress Refusal) → Agree (later ms₁) (later ms₂) (from_begin_lists σ (later ms₁) x)
           → Equal (from_begin_lent σ (later ms₁) bs₁ x) (from_begin_lent σ (later ms₂) bs₂ x) (from_begin_lists σ (later ms₁) x) (from_begin_lists σ (later ms₂) x)
-      by-start (Begin.Begun p) k = within_same _ (later ms₁) (later ms₂) (λ i. len (suc i)) bs₁ bs₂ size p k
-      by-start (Begin.Refused r) k = record { frames = refl; addresses = refl }
+      by-start (Ok p) k = within_same _ (later ms₁) (later ms₂) (λ i. len (suc i)) bs₁ bs₂ size p k
+      by-start (Err r) k = record { frames = refl; addresses = refl }
 
   -- ---- on a memory that stays ----
 
@@ -163,6 +163,6 @@ module _ (σ : Settings) where
   unfolding frame_lent frame rest
   frame-stays latch m = by-start (begin latch σ m)
     where
-      by-start : (x : BeginAnswer) → from_begin_lent σ (λ _. m) blanks x ≡ from_begin σ m x
-      by-start (Begin.Begun p) = within-stays _ m p
-      by-start (Begin.Refused r) = refl
+      by-start : (x : Result Progress Refusal) → from_begin_lent σ (λ _. m) blanks x ≡ from_begin σ m x
+      by-start (Ok p) = within-stays _ m p
+      by-start (Err r) = refl

@@ -1,10 +1,11 @@
 -- A frame on a memory that may change between its calls. Document 02: "Demand 2 reads memory as each call finds it". And the addresses of
 -- the words that each of its calls reads: "The addresses of the words read, in order, are wanted from a start and a row".
-use Rattle.std.specs.Prelude.{ℕ, zero, suc, ◌/◌, List, [], ◌∷◌, ◌++◌, ℤ, pos, length, eqb, ltb}
+use Rattle.std.specs.Prelude.{ℕ, zero, suc, ◌/◌, List, [], ◌∷◌, ◌++◌, ℤ, pos, length, eqb, ltb, Result, Ok, Err}
 use Rattle.std.proofs.Math.Option.{Option, none, some}
 use Rattle.std.specs.Int.Signed.{lt_z}
 use Rattle.memory.specs.Word.{when◌then◌else◌}
 use Rattle.memory.specs.Reading.{Reading, ◌>>=◌, asked}
+use Rattle.memory.specs.declared.Refusal.{Refusal}
 use Rattle.settings.specs.declared.PointerWords.{PointerWords}
 use Rattle.settings.specs.declared.Settings.{Settings}
 use Rattle.state.specs.declared.State.{State}
@@ -12,8 +13,6 @@ use Rattle.state.specs.State.{state_of}
 use Rattle.start.specs.Start.{start_from}
 use Rattle.row.specs.Row.{row}
 use Rattle.frame.specs.declared.Progress.{Progress}
-use Rattle.frame.specs.declared.BeginAnswer.{BeginAnswer}
-use Rattle.frame.specs.declared.BeginAnswer.TheVariants as Begin
 use Rattle.frame.specs.declared.StepAnswer.{StepAnswer}
 use Rattle.frame.specs.declared.StepAnswer.TheVariants.{Drawn, Ended, Refused}
 use Rattle.frame.specs.Step.{begin, step}
@@ -48,9 +47,9 @@ unfoldable pub within_lent : ℕ → Settings → Finds → Buffers → Progress
 within_lent zero σ ms bs p = stopped none p
 within_lent (suc n) σ ms bs p = by_step (within_lent n σ (later ms) (later bs)) p (step σ (ms 0) p (bs 0))
 
-abbrev pub from_begin_lent : Settings → Finds → Buffers → BeginAnswer → Frame
-from_begin_lent σ ms bs (Begin.Begun p) = within_lent p.state.fields.left σ ms bs p
-from_begin_lent σ ms bs (Begin.Refused r) = not_started r
+abbrev pub from_begin_lent : Settings → Finds → Buffers → Result Progress Refusal → Frame
+from_begin_lent σ ms bs (Ok p) = within_lent p.state.fields.left σ ms bs p
+from_begin_lent σ ms bs (Err r) = not_started r
 
 unfoldable pub frame_lent : ℕ → Settings → Finds → Buffers → Frame
 frame_lent latch σ ms bs = from_begin_lent σ (later ms) bs (begin latch σ (ms 0))
@@ -75,9 +74,9 @@ lists_within (suc n) σ ms p =
     then []
     else words_read (ms 0) (row σ p.state) ∷ lists_after (lists_within n σ (later ms)) (step σ (ms 0) p blank).answer
 
-abbrev pub from_begin_lists : Settings → Finds → BeginAnswer → List (List ℕ)
-from_begin_lists σ ms (Begin.Begun p) = lists_within p.state.fields.left σ ms p
-from_begin_lists σ ms (Begin.Refused r) = []
+abbrev pub from_begin_lists : Settings → Finds → Result Progress Refusal → List (List ℕ)
+from_begin_lists σ ms (Ok p) = lists_within p.state.fields.left σ ms p
+from_begin_lists σ ms (Err r) = []
 
 unfoldable pub lists : ℕ → Settings → Finds → List (List ℕ)
 lists latch σ ms = words_read (ms 0) (start_from latch σ) ∷ from_begin_lists σ (later ms) (begin latch σ (ms 0))

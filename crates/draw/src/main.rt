@@ -1,15 +1,11 @@
 #![tactic(auto)]
 // The draw program: a script on standard input, and on standard output its text.
 ghost use Rattle.std.specs.Prelude.{OnOk};
-ghost use Rattle.std.specs.Io.KnownBytes.{Appends};
-ghost use Rattle.script.specs.Feeding.{stepped, outcome};
 ghost use Rattle.script_input.specs.Reader.{Prints};
-ghost use Rattle.text.specs.Text.{outcome_text, output};
+ghost use Rattle.text.specs.Text.{output};
 
-use script::Step;
 use std::io;
 use std::io::{Read, Write};
-use text::Lines;
 
 fn main(rt: HostRuntime) -> io::Result<()> {
     draw(&mut rt.stdin(), &mut rt.stdout())
@@ -21,24 +17,6 @@ fn draw<R: Read, W: Write>(input: &mut R, to: &mut W) -> io::Result<()>
 {
     let mut mem = [0u16; 16384];
     let script = script_input::read_script(input, &mut mem);
-    print(to, script, &mem)
-}
-
-// The script's text, as its lines come; a write that fails ends it.
-fn print<W: Write>(to: &mut W, script: Step, mem: &[u16; 16384]) -> io::Result<()>
-    ensures { OnOk result (Appends (W.contents to.old) (W.contents to.new) (outcome_text (outcome (stepped script mem.now)))) }
-{
-    let mut text = text::begin(script, mem);
-    let mut out = [0u8; 2048];
-    loop {
-        match text::next(text, mem, &mut out) {
-            Lines::AtEnd => {
-                return Ok(());
-            }
-            Lines::Written { count, text: after } => {
-                to.write_all(&out[..count])?;
-                text = after;
-            }
-        }
-    }
+    let text = text::begin(script, &mem);
+    script_input::print(to, text, &mem)
 }

@@ -1,4 +1,5 @@
 -- Demand 3, the proof: a row's outcome from any latch follows from its effect, and so do the outcomes of a list of row calls.
+use Rattle.std.proofs.Common.{Option, Some, None, Result, Ok, Err}
 use mathlib.Core.Path.{◌≡◌, refl, ap, ap₂, sym, ◌∙◌}
 use mathlib.Core.Bool.{Bool, true, false}
 use mathlib.Core.List.{List, [], ◌∷◌}
@@ -7,11 +8,10 @@ use lib.ListN.{length}
 use Rattle.memory.specs.declared.Fault.{Fault}
 use Rattle.memory.specs.Reading.{Outcome, given, refused, refusal, run}
 use Rattle.memory.proofs.Related.{Ends, givens, refuseds, run-rel}
+use Rattle.memory.specs.declared.Refusal.{Refusal}
 use Rattle.settings.specs.declared.Settings.{Settings}
 use Rattle.state.specs.declared.Fields.{Fields}
 use Rattle.state.specs.declared.State.{State}
-use Rattle.row.specs.declared.RowAnswer.{RowAnswer}
-use Rattle.row.specs.declared.RowAnswer.TheVariants.{Accepted, Refused}
 use Rattle.state.specs.State.{state_of}
 use Rattle.codes.specs.Attribute.{ignores}
 use Rattle.plan.specs.Plan.{Plan}
@@ -19,26 +19,23 @@ use Rattle.row.specs.Row.{Row, row, answered, row_call}
 use Rattle.cells.proofs.Alike.{kept, became, alike}
 use Rattle.row.proofs.RowAlike.{EndAlike, ends, row-alike, Planned, accepts, refusing, row-planned}
 use Rattle.joining.specs.declared.Effect.{Effect}
-use Rattle.joining.specs.declared.Applied.{Applied}
-use Rattle.joining.specs.declared.Applied.TheVariants.{Latch, Refused as Refuses}
-use Rattle.effect.specs.declared.NextFields.{NextFields}
-use Rattle.effect.specs.declared.NextFields.TheVariants.{Reached, Unreached}
 use Rattle.joining.specs.Join.{empty, part_for, join, apply_part, apply}
 use Rattle.effect.specs.Effect.{part_of, next_of, latch_with, outcome_for, effect_call}
 use Rattle.effect.specs.Demand.{Call, is_row, state_after, fields_after, on_buffer, in_turn, row_alone, drawn_alone, Demand3}
 use Rattle.joining.proofs.Joining.{join-assoc, empty-join, join-empty, apply-join, apply-empty}
+use Rattle.row.specs.declared.DrawnRow.{DrawnRow}
 
 -- ---- a row from any latch ----
 
 -- what an answer makes of the latch
-abbrev pub latch_made : RowAnswer → Applied
-latch_made (Accepted r) = Latch r.next.latch
-latch_made (Refused r) = Refuses r
+abbrev pub latch_made : Result DrawnRow Refusal → Result ℕ Refusal
+latch_made (Ok r) = Ok r.next.latch
+latch_made (Err r) = Err r
 
 -- the fields that an effect comes with are those of an accepted row's next state
-abbrev pub FieldsMade : NextFields → RowAnswer → Type 0
-FieldsMade next (Accepted r) = next ≡ Reached r.next.fields
-FieldsMade next (Refused r) = Unit
+abbrev pub FieldsMade : Option Fields → Result DrawnRow Refusal → Type 0
+FieldsMade next (Ok r) = next ≡ Some r.next.fields
+FieldsMade next (Err r) = Unit
 
 -- the row call with a buffer of 132 cells
 sized : (σ : Settings) (m : List ℕ) (s : State) (b : List ℕ) → length b ≡ 132
@@ -53,15 +50,15 @@ module _ (σ : Settings) (f : Fields) (b : List ℕ) (l₀ l : ℕ) where
   part-latch (givens (ends n t g d e (alike c u xs ys kept))) = refl
   part-latch (givens (ends n t g d e (alike c u xs ys (became w)))) = refl
 
-  first-fields : {o₀ o : Outcome Row} (otherwise : NextFields) → Ends (EndAlike l₀ l) o₀ o
+  first-fields : {o₀ o : Outcome Row} (otherwise : Option Fields) → Ends (EndAlike l₀ l) o₀ o
       → FieldsMade (next_of o₀ otherwise) (answered σ f b o).answer
   first-fields otherwise refuseds = tt
   first-fields otherwise (givens (ends n t g d e r)) = refl
 
   second-fields : {op : Outcome Plan} {o₁ o₀ o : Outcome Row} → Planned op o₁ → Planned op o₀ → Ends (EndAlike l₀ l) o₀ o
-      → FieldsMade (next_of o₁ (next_of o₀ Unreached)) (answered σ f b o).answer
+      → FieldsMade (next_of o₁ (next_of o₀ None)) (answered σ f b o).answer
   second-fields h k refuseds = tt
-  second-fields (accepts h) (accepts k) (givens (ends n t g d e r)) = ap Reached (h ∙ sym k)
+  second-fields (accepts h) (accepts k) (givens (ends n t g d e r)) = ap Some (h ∙ sym k)
   second-fields refusing k (givens (ends n t g d e r)) = refl
 
 -- the latch of a part has the bit 13 that the part is for
@@ -110,8 +107,8 @@ module _ (σ : Settings) (m : List ℕ) (first : ℕ) where
   -- where the calls stand against the effects of the rows above: these make the state's latch, on its fields; or they refuse as a
   -- row from the state does
   pub data Stands (f : Fields) (above : Effect) : State → Type 0 where
-    goes : {l : ℕ} → apply above first ≡ Latch l → Stands f above (state_of l f)
-    stays : {s : State} (x : Fault) → run m (row σ s) ≡ refused x → apply above first ≡ Refuses (refusal s.fields.row x)
+    goes : {l : ℕ} → apply above first ≡ Ok l → Stands f above (state_of l f)
+    stays : {s : State} (x : Fault) → run m (row σ s) ≡ refused x → apply above first ≡ Err (refusal s.fields.row x)
         → Stands f above s
 
   -- the call is the row drawn alone

@@ -1,4 +1,5 @@
 -- A row's outcomes from its plan: refused as the plan is, or gone on from it; and its effect, where its latch was told.
+use Rattle.std.proofs.Common.{Option, Some, Result, Ok, Err}
 use mathlib.Core.Path.{◌≡◌, refl, ap, ap₂, sym, ◌∙◌}
 use mathlib.Core.Bool.{Bool, true, false}
 use mathlib.Core.List.{List}
@@ -12,11 +13,7 @@ use Rattle.settings.specs.declared.Settings.{Settings}
 use Rattle.state.specs.declared.Fields.{Fields}
 use Rattle.state.specs.declared.State.{State}
 use Rattle.plan.specs.Plan.{Plan, plan}
-use Rattle.plan.specs.declared.PlanAnswer.{PlanAnswer}
-use Rattle.plan.specs.declared.PlanAnswer.TheVariants as Plans
-use Rattle.plan.specs.Answers.{plan_answer}
 use Rattle.cells.specs.declared.CellsDrawn.{CellsDrawn}
-use Rattle.cells.specs.declared.CellsDrawn.TheVariants as Cells
 use Rattle.codes.specs.Codes.{Drawing, blank}
 use Rattle.cells.specs.Cells.{row_cells}
 use Rattle.cells.specs.Answers.{Finished, finish, finished}
@@ -28,10 +25,8 @@ use Rattle.latch.specs.declared.LatchEffect.TheVariants.{Kept, Latched, Unclear}
 use Rattle.latch.specs.Latch.{ending, AsDrawn}
 use Rattle.joining.specs.declared.Part.{Part}
 use Rattle.joining.specs.declared.Part.TheVariants.{Keep, Set}
-use Rattle.effect.specs.declared.NextFields.{NextFields}
-use Rattle.effect.specs.declared.NextFields.TheVariants.{Reached}
 use Rattle.effect.specs.Effect.{part_of, next_of, latch_with, outcome_for, effect_of, effect_call}
-use Rattle.effect.specs.Answers.{same_parts, part_drawn, next_drawn, refused_effect, told_effect, Told}
+use Rattle.effect.specs.Answers.{same_parts, part_drawn, next_drawn, refused_effect}
 
 module _ (σ : Settings) (m : List ℕ) (f : Fields) where
   pub plan-refused : {x : Fault} → refused x ≡ run m (plan σ f) → (ignore : Bool) → refused x ≡ outcome_for σ m f ignore
@@ -46,7 +41,7 @@ module _ (σ : Settings) (m : List ℕ) (f : Fields) where
   module _ {n : ℕ} {p : Plan} (e : given n p ≡ run m (plan σ f)) where
     -- an accepted row that has a part and the plan's next fields; the part as told
     abbrev Accepts : Part → Outcome Row → Type 0
-    Accepts part o = (part_of f o ≡ part) × ((x : NextFields) → next_of o x ≡ Reached p.next)
+    Accepts part o = (part_of f o ≡ part) × ((x : Option Fields) → next_of o x ≡ Some p.next)
 
     abbrev Ends : LatchEffect → Outcome Row → Type 0
     Ends Kept o = Accepts Keep o
@@ -77,30 +72,18 @@ module _ (σ : Settings) (m : List ℕ) (f : Fields) where
     pub latched-effect : (w : ℕ) → AsDrawn (code_settings σ) m f.fill p.overlay p.segments (Latched w) → same_parts (Set w) p.next ≡ effect_call σ m f
     latched-effect w h = same (Set w) (λ ignore. row_ends (Latched w) ignore (h n (latch_with ignore)))
 
--- the effect of a row by what is told of its latch, or by its plan's refusal
-module _ (σ : Settings) (m : List ℕ) (f : Fields) where
-  pub refused-effect : {x : Fault} → refused x ≡ run m (plan σ f) → refused_effect f x ≡ effect_call σ m f
-  unfolding effect_call
-  refused-effect e = ap₂ (effect_of f) (plan-refused σ m f e false) (plan-refused σ m f e true)
-
-  module _ (back window : List ℕ) where
-    pub told-kept : (a : PlanAnswer) → plan_answer σ.linear a back window ≡ run m (plan σ f) → Told σ m f back window a Kept
-        → told_effect f Keep a ≡ effect_call σ m f
-    told-kept (Plans.Planned p) e h = kept-effect σ m f e h
-    told-kept (Plans.Refused x) e h = refused-effect e
-
-    pub told-latched : (w : ℕ) (a : PlanAnswer) → plan_answer σ.linear a back window ≡ run m (plan σ f) → Told σ m f back window a (Latched w)
-        → told_effect f (Set w) a ≡ effect_call σ m f
-    told-latched w (Plans.Planned p) e h = latched-effect σ m f e w h
-    told-latched w (Plans.Refused x) e h = refused-effect e
+-- the effect of a row whose plan is refused
+pub refused-effect : (σ : Settings) (m : List ℕ) (f : Fields) {x : Fault} → refused x ≡ run m (plan σ f) → refused_effect f x ≡ effect_call σ m f
+unfolding effect_call
+refused-effect σ m f e = ap₂ (effect_of f) (plan-refused σ m f e false) (plan-refused σ m f e true)
 
 -- what the cells of a planned row tell is the row's
 module _ (σ : Settings) (m : List ℕ) (s : State) {n : ℕ} {p : Plan} (e : given n p ≡ run m (plan σ s.fields)) where
-  pub cells-row : (c : CellsDrawn) (cs : List ℕ)
+  pub cells-row : (c : Result CellsDrawn Fault) (cs : List ℕ)
       → finished c cs ≡ finish (run_from n m (row_cells (code_settings σ) s.fields.fill p.overlay p.segments (blank s.latch)))
-      → (part_drawn s.fields c ≡ part_of s.fields (run m (row σ s))) × ((x : NextFields) → next_drawn p.next c x ≡ next_of (run m (row σ s)) x)
-  cells-row (Cells.Refused x) cs h = rw (← planned-refused σ m s e (finish-refused _ h)) (refl, λ x. refl)
-  cells-row (Cells.Accepted l b i) cs h =
+      → (part_drawn s.fields c ≡ part_of s.fields (run m (row σ s))) × ((x : Option Fields) → next_drawn p.next c x ≡ next_of (run m (row σ s)) x)
+  cells-row (Err x) cs h = rw (← planned-refused σ m s e (finish-refused _ h)) (refl, λ x. refl)
+  cells-row (Ok d) cs h =
       let g = finish-given _ h in
       rw (← planned-drawn σ m s e g.is) (
         ap₂ (λ (b : Bool) (w : ℕ). when b then Set w else Keep) (ap (λ (f : Finished). f.latched) g.same) (ap (λ (f : Finished). f.latch) g.same),

@@ -1,21 +1,17 @@
 -- Demand 3, "A row can be drawn alone": the statement. Its words are the mission's and document 01's: "Demand 3 is a single claim
 -- about a list of row calls, not one for each call."
-use Rattle.std.specs.Prelude.{ℕ, ◌≡◌, Bool, List, [], ◌∷◌, length, eqb}
+use Rattle.std.specs.Prelude.{ℕ, ◌≡◌, Bool, List, [], ◌∷◌, length, eqb, Option, Some, None, Result, Ok, Err}
 use Rattle.memory.specs.Word.{when◌then◌else◌}
+use Rattle.memory.specs.declared.Refusal.{Refusal}
 use Rattle.settings.specs.declared.Settings.{Settings}
 use Rattle.state.specs.declared.Fields.{Fields}
 use Rattle.state.specs.declared.State.{State}
-use Rattle.row.specs.declared.RowAnswer.{RowAnswer}
-use Rattle.row.specs.declared.RowAnswer.TheVariants.{Accepted, Refused}
 use Rattle.state.specs.State.{state_of}
 use Rattle.row.specs.Row.{Called, called, row_call}
 use Rattle.joining.specs.declared.Effect.{Effect}
-use Rattle.joining.specs.declared.Applied.{Applied}
-use Rattle.joining.specs.declared.Applied.TheVariants.{Latch, Refused as Refuses}
-use Rattle.effect.specs.declared.NextFields.{NextFields}
-use Rattle.effect.specs.declared.NextFields.TheVariants.{Reached, Unreached}
 use Rattle.effect.specs.declared.EffectAnswer.{EffectAnswer}
 use Rattle.joining.specs.Join.{empty, join, apply}
+use Rattle.row.specs.declared.DrawnRow.{DrawnRow}
 use Rattle.effect.specs.Effect.{effect_call}
 
 -- "any list of row calls, refused ones included, with any row buffers": a call's buffer has any size and any cells. Beside it stands
@@ -31,24 +27,24 @@ abbrev pub is_row : Call → Bool
 is_row c = eqb (length c.buffer) 132
 
 -- "Each goes on from the state that the last one gave or left"
-unfoldable pub state_after : State → RowAnswer → State
-state_after s (Accepted r) = r.next
-state_after s (Refused r) = s
+unfoldable pub state_after : State → Result DrawnRow Refusal → State
+state_after s (Ok r) = r.next
+state_after s (Err r) = s
 
 -- "one effect call is made, with any latch": the call's type has only the state's other fields, so the latch is not looked at
 abbrev pub effect_on : Settings → List ℕ → State → EffectAnswer
 effect_on σ m s = effect_call σ m s.fields
 
 -- "each next on those that the one before came with, or on the same again where both its parts refused"
-unfoldable pub fields_after : Fields → NextFields → Fields
-fields_after f (Reached next) = next
-fields_after f Unreached = f
+unfoldable pub fields_after : Fields → Option Fields → Fields
+fields_after f (Some next) = next
+fields_after f None = f
 
 -- "Its answer and its buffer's cells equal the call's, or its refusal does": an accepted row leaves the same cells in the call's
 -- buffer and in any other lent to it; of a refused one only the refusal is the same, and the call's buffer is as it was handed in.
-unfoldable pub on_buffer : List ℕ → RowAnswer → List ℕ → Called
-on_buffer buffer (Accepted r) cells = called (Accepted r) cells
-on_buffer buffer (Refused r) cells = called (Refused r) buffer
+unfoldable pub on_buffer : List ℕ → Result DrawnRow Refusal → List ℕ → Called
+on_buffer buffer (Ok r) cells = called (Ok r) cells
+on_buffer buffer (Err r) cells = called (Err r) buffer
 
 -- "memory and settings stay, and nobody else writes the state"
 module _ (σ : Settings) (m : List ℕ) where
@@ -62,9 +58,9 @@ module _ (σ : Settings) (m : List ℕ) where
 
   -- "If they refuse, the call gives this same first refusal." "The row drawn alone is a row call with 132 cells on the fields then
   -- reached and the latch that the joined effects make of the first one."
-  unfoldable pub row_alone : Fields → Call → Applied → Called
-  row_alone f c (Refuses r) = called (Refused r) c.buffer
-  row_alone f c (Latch l) =
+  unfoldable pub row_alone : Fields → Call → Result ℕ Refusal → Called
+  row_alone f c (Err r) = called (Err r) c.buffer
+  row_alone f c (Ok l) =
       let out : Called = row_call σ m (state_of l f) c.alone_buffer in
       on_buffer c.buffer out.answer out.buffer
 
@@ -85,6 +81,6 @@ pub record Demand3 : Type 0 where
   pub grouping : (a b c : Effect) → join (join a b) c ≡ join a (join b c)
   pub empty_before : (e : Effect) → join empty e ≡ e
   pub empty_after : (e : Effect) → join e empty ≡ e
-  pub empty_applied : (latch : ℕ) → apply empty latch ≡ Latch latch
+  pub empty_applied : (latch : ℕ) → apply empty latch ≡ Ok latch
   pub rows : (σ : Settings) (m : List ℕ) (s : State) (calls : List Call)
       → in_turn σ m s calls ≡ drawn_alone σ m s.latch s.fields empty calls

@@ -1,5 +1,5 @@
 -- Document 01: the effect of a row, and the effect call.
-use Rattle.std.specs.Prelude.{ℕ, Bool, true, false, List}
+use Rattle.std.specs.Prelude.{ℕ, Bool, true, false, List, Option, Some, None}
 use Rattle.memory.specs.Word.{when◌then◌else◌}
 use Rattle.memory.specs.Reading.{Outcome, given, refused, refusal, run}
 use Rattle.settings.specs.declared.Settings.{Settings}
@@ -8,8 +8,6 @@ use Rattle.state.specs.State.{state_of}
 use Rattle.row.specs.Row.{Row, row}
 use Rattle.joining.specs.declared.Part.{Part}
 use Rattle.joining.specs.declared.Part.TheVariants.{Keep, Set, Refuse}
-use Rattle.effect.specs.declared.NextFields.{NextFields}
-use Rattle.effect.specs.declared.NextFields.TheVariants.{Reached, Unreached}
 use Rattle.effect.specs.declared.EffectAnswer.{EffectAnswer}
 
 -- "A part is the refusal that a row gives from such a latch; without one, the last word that became the latch; without one, keep."
@@ -18,8 +16,8 @@ part_of f (refused x) = Refuse (refusal f.row x)
 part_of f (given n r) = when r.drawing.pen.latched then Set r.drawing.pen.latch else Keep
 
 -- "unless both parts refuse, comes with the next state's other fields": those of the first outcome that is no refusal
-abbrev pub next_of : Outcome Row → NextFields → NextFields
-next_of (given n r) otherwise = Reached r.next
+abbrev pub next_of : Outcome Row → Option Fields → Option Fields
+next_of (given n r) otherwise = Some r.next
 next_of (refused x) otherwise = otherwise
 
 -- a latch with ignore clear, and one with it set
@@ -35,7 +33,7 @@ outcome_for σ m f ignore = run m (row σ (state_of (latch_with ignore) f))
 abbrev pub effect_of : Fields → Outcome Row → Outcome Row → EffectAnswer
 effect_of f clear set = record {
   effect = record { clear = part_of f clear; set = part_of f set };
-  next = next_of clear (next_of set Unreached);
+  next = next_of clear (next_of set None);
 }
 
 -- "A row's effect doesn't depend on the state's latch; it takes a row's checks but 1"

@@ -1,99 +1,70 @@
 #![tactic(auto)]
 // The effect of a row on the latch.
-ghost use Rattle.std.specs.Prelude.{◌≡◌};
+ghost use Rattle.std.specs.Prelude.{◌≡◌, Option};
 ghost use Rattle.memory.specs.Reading.{given, run};
 ghost use Rattle.plan.specs.Plan.{plan};
-ghost use Rattle.plan.specs.Answers.{plan_of, plan_answer};
+ghost use Rattle.plan.specs.Answers.{plan_of};
 ghost use Rattle.state.specs.State.{state_of};
 ghost use Rattle.row.specs.Row.{row};
-ghost use Rattle.effect.specs.declared.NextFields.{NextFields};
+ghost use Rattle.state.specs.declared.Fields.{Fields};
 ghost use Rattle.effect.specs.Effect.{part_of, next_of, effect_call};
-ghost use Rattle.effect.specs.Answers.{same_parts, part_drawn, next_drawn, effect_drawn, refused_effect, told_effect, Told};
+ghost use Rattle.effect.specs.Answers.{same_parts, part_drawn, next_drawn, effect_drawn, refused_effect};
 
 use cells::CellsDrawn;
 use joining::{Effect, Part};
 use latch::LatchEffect;
 use memory::Fault;
-use plan::{PlanAnswer, PlanHead};
+use plan::PlanHead;
 use settings::Settings;
 use state::Fields;
-
-// The next state's fields other than the latch, or that both parts refuse.
-#[derive(Clone, Copy)]
-pub enum NextFields {
-    Reached(Fields),
-    Unreached,
-}
 
 // The answer of an effect call.
 #[derive(Clone, Copy)]
 pub struct EffectAnswer {
     pub effect: Effect,
-    pub next: NextFields,
+    pub next: Option<Fields>,
 }
 
-// The effect of a row, with the next state's fields: its plan once, and then what becomes of the latch, told without its cells.
-// Where that is unclear, the row is drawn. The plan's answer is handed on whole, so that the next fields are taken from it last.
+// The effect of a row, with the next state's fields, or its plan's refusal for either latch.
 pub fn row_effect(settings: Settings, mem: &[u16], fields: Fields) -> EffectAnswer
     ensures { result ≡ effect_call settings mem.now fields }
 {
     let mut back = [0u16; 75];
     let mut window = [0u16; 75];
-    let answer = plan::plan_row(mem, settings, fields, &mut back, &mut window);
-    match latch_told(settings, mem, fields, answer, &back, &window) {
-        LatchEffect::Kept => told_effect(fields, Part::Keep, answer),
-        LatchEffect::Latched(w) => told_effect(fields, Part::Set(w), answer),
-        LatchEffect::Unclear => match answer {
-            PlanAnswer::Refused(fault) => refused_effect(fields, fault),
-            PlanAnswer::Planned(p) => drawn_effect(settings, mem, fields, p, &back, &window),
-        },
+    match plan::plan_row(mem, settings, fields, &mut back, &mut window) {
+        Ok(p) => planned_effect(settings, mem, fields, p, &back, &window),
+        Err(fault) => refused_effect(fields, fault),
     }
 }
 
-// What becomes of the latch, by a row's plan; nothing is told where that is refused. The arms are named, for the tag and the word of
-// what is told are not to be read in one piece.
-fn latch_told(
+// The effect of a planned row: what becomes of the latch is told without its cells, and where that is unclear, the row is drawn.
+fn planned_effect(
     settings: Settings,
     mem: &[u16],
     fields: Fields,
-    answer: PlanAnswer,
+    p: PlanHead,
     back: &[u16; 75],
     window: &[u16; 75],
-) -> LatchEffect
-    requires { plan_answer settings.linear answer back.now window.now ≡ run mem.now (plan settings fields) }
-    ensures { Told settings mem.now fields back.now window.now answer result }
+) -> EffectAnswer
+    requires { given p.words (plan_of settings.linear p back.now window.now) ≡ run mem.now (plan settings fields) }
+    ensures { result ≡ effect_call settings mem.now fields }
 {
-    match answer {
-        PlanAnswer::Refused(_) => LatchEffect::Unclear,
-        PlanAnswer::Planned(p) => {
-            let fill = fields.fill;
-            let overlay = p.overlay;
-            let count = p.count;
-            let code = row::code_settings(settings);
-            match latch::row_latch(mem, code, fill, overlay, back, count, window) {
-                LatchEffect::Kept => LatchEffect::Kept,
-                LatchEffect::Latched(w) => LatchEffect::Latched(w),
-                LatchEffect::Unclear => LatchEffect::Unclear,
-            }
-        }
-    }
-}
-
-// The answer where the latch is told: the same part with ignore clear and with it set, or the plan's refusal.
-fn told_effect(fields: Fields, part: Part, answer: PlanAnswer) -> EffectAnswer
-    ensures { result ≡ told_effect fields part answer }
-{
-    match answer {
-        PlanAnswer::Refused(fault) => refused_effect(fields, fault),
-        PlanAnswer::Planned(p) => same_parts(part, p),
-    }
+    let fill = fields.fill;
+    let overlay = p.overlay;
+    let code = row::code_settings(settings);
+    let part = match latch::row_latch(mem, code, fill, overlay, back, p.count, window) {
+        LatchEffect::Kept => Part::Keep,
+        LatchEffect::Latched(w) => Part::Set(w),
+        LatchEffect::Unclear => return drawn_effect(settings, mem, fields, p, back, window),
+    };
+    same_parts(part, p)
 }
 
 // The answer for a row whose plan is refused, for either latch.
 fn refused_effect(fields: Fields, fault: Fault) -> EffectAnswer
     ensures { result ≡ refused_effect fields fault }
 {
-    let refused = CellsDrawn::Refused(fault);
+    let refused = Err(fault);
     effect_of(fields, fields, refused, refused)
 }
 
@@ -108,7 +79,7 @@ fn same_parts(part: Part, p: PlanHead) -> EffectAnswer
     let next = p.next;
     EffectAnswer {
         effect,
-        next: NextFields::Reached(next),
+        next: Some(next),
     }
 }
 
@@ -139,10 +110,10 @@ fn draw_from(
     back: &[u16; 75],
     window: &[u16; 75],
     latch: u16,
-) -> CellsDrawn
+) -> Result<CellsDrawn, Fault>
     requires { given p.words (plan_of settings.linear p back.now window.now) ≡ run mem.now (plan settings fields) }
     ensures result_value { part_drawn fields result ≡ part_of fields (run mem.now (row settings (state_of latch fields))) }
-    ensures x_value { (x : NextFields) → next_drawn p.next result x ≡ next_of (run mem.now (row settings (state_of latch fields))) x }
+    ensures x_value { (x : Option Fields) → next_drawn p.next result x ≡ next_of (run mem.now (row settings (state_of latch fields))) x }
 {
     let fill = fields.fill;
     let overlay = p.overlay;
@@ -155,30 +126,31 @@ fn draw_from(
 }
 
 // The answer of an effect call, from a row's cells with ignore clear and with it set.
-fn effect_of(fields: Fields, reached: Fields, clear: CellsDrawn, set: CellsDrawn) -> EffectAnswer
+fn effect_of(
+    fields: Fields,
+    reached: Fields,
+    clear: Result<CellsDrawn, Fault>,
+    set: Result<CellsDrawn, Fault>,
+) -> EffectAnswer
     ensures { result ≡ effect_drawn fields reached clear set }
 {
     let effect = Effect {
         clear: part_of(fields, clear),
         set: part_of(fields, set),
     };
-    let next = next_of(reached, clear, next_of(reached, set, NextFields::Unreached));
+    let next = next_of(reached, clear, next_of(reached, set, None));
     EffectAnswer { effect, next }
 }
 
 // The part that a row has, drawn from a latch of its ignore.
-fn part_of(fields: Fields, d: CellsDrawn) -> Part
+fn part_of(fields: Fields, d: Result<CellsDrawn, Fault>) -> Part
     ensures { result ≡ part_drawn fields d }
 {
     match d {
-        CellsDrawn::Refused(fault) => Part::Refuse(memory::refusal_of(fields.row, fault)),
-        CellsDrawn::Accepted {
-            latch,
-            latched,
-            words: _,
-        } => {
-            if latched {
-                Part::Set(latch)
+        Err(fault) => Part::Refuse(memory::refusal_of(fields.row, fault)),
+        Ok(drawn) => {
+            if drawn.latched {
+                Part::Set(drawn.latch)
             } else {
                 Part::Keep
             }
@@ -187,15 +159,15 @@ fn part_of(fields: Fields, d: CellsDrawn) -> Part
 }
 
 // The fields reached, or those given where the row is refused.
-fn next_of(reached: Fields, d: CellsDrawn, otherwise: NextFields) -> NextFields
+fn next_of(
+    reached: Fields,
+    d: Result<CellsDrawn, Fault>,
+    otherwise: Option<Fields>,
+) -> Option<Fields>
     ensures { result ≡ next_drawn reached d otherwise }
 {
     match d {
-        CellsDrawn::Refused(_) => otherwise,
-        CellsDrawn::Accepted {
-            latch: _,
-            latched: _,
-            words: _,
-        } => NextFields::Reached(reached),
+        Err(_) => otherwise,
+        Ok(_) => Some(reached),
     }
 }

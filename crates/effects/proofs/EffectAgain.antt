@@ -1,4 +1,5 @@
 -- An effect that was written, its refusals with an effect's numbers, is read back as it was.
+use Rattle.std.proofs.Common.{Some}
 use mathlib.Core.Path.{◌≡◌, refl, sym, ◌∙◌}
 use mathlib.Core.Bool.{true, false, ◌||◌}
 use lib.Dec.{eqb}
@@ -10,7 +11,6 @@ use Rattle.joining.specs.declared.Part.{Part}
 use Rattle.joining.specs.declared.Part.TheVariants.{Keep, Set, Refuse}
 use Rattle.joining.specs.declared.Effect.{Effect}
 use Rattle.numbers.specs.Places.{within, any}
-use Rattle.effects.specs.declared.decode.EffectIn.TheVariants.{Fit}
 use Rattle.effects.specs.EffectNumbers.{of_effect, part_written, part_at, effect_at, effect_written, effect_in, part_numbers, effect_numbers}
 
 -- a part that fits its numbers: a 16-bit word, or a refusal of an effect with its row and addresses in 32 bits, where another than 7 has 0 in
@@ -48,7 +48,7 @@ part-within Keep h ls xs = refl
 part-within (Set w) h ls xs = rw (le-leb w 65535 h)
 part-within (Refuse r) h ls xs = rw (le-leb r.number 17 h.1, le-leb r.row any h.2, le-leb r.address any h.3, le-leb r.from any h.4)
 
-pub effect-again : (e : Effect) → PartFits e.clear → PartFits e.set → effect_in (effect_numbers e) ≡ Fit e
+pub effect-again : (e : Effect) → PartFits e.clear → PartFits e.set → effect_in (effect_numbers e) ≡ Some e
 unfolding effect_in effect_written effect_at effect_numbers within
 effect-again e h g =
     rw (part-within e.clear h _ _, part-within e.set g _ _, (part-again e.clear h).0, (part-again e.set g).0, (part-again e.clear h).1, (part-again e.set g).1)

@@ -1,13 +1,11 @@
 -- An effect as numbers at their places, and from them.
-use Rattle.std.specs.Prelude.{ℕ, Bool, ◌&&◌, ◌||◌, List, [], ◌∷◌, eqb, leb}
+use Rattle.std.specs.Prelude.{ℕ, Bool, ◌&&◌, ◌||◌, List, [], ◌∷◌, eqb, leb, Option, Some, None}
 use Rattle.memory.specs.Word.{when◌then◌else◌, at}
 use Rattle.joining.specs.declared.Part.{Part}
 use Rattle.joining.specs.declared.Part.TheVariants.{Keep, Set, Refuse}
 use Rattle.joining.specs.declared.Effect.{Effect}
 use Rattle.numbers.specs.Places.{within, any}
 use Rattle.numbers.specs.Decode.{yes}
-use Rattle.effects.specs.declared.decode.EffectIn.{EffectIn}
-use Rattle.effects.specs.declared.decode.EffectIn.TheVariants.{Fit, Unfit}
 use Rattle.effects.specs.declared.encode.PartNumbers.{PartNumbers}
 
 -- the part for ignore clear, then the one for ignore set. Each: the number of its refusal, or 0, its row, its address and where the pointer
@@ -39,15 +37,15 @@ part_written number row address from sets word =
     then eqb row 0 && eqb address 0 && eqb from 0 && (yes sets || eqb word 0)
     else of_effect number && (eqb number 7 || eqb from 0) && eqb sets 0 && eqb word 0
 
-unfoldable pub effect_written : List ℕ → EffectIn
+unfoldable pub effect_written : List ℕ → Option Effect
 effect_written xs =
     when part_written (at xs 0) (at xs 1) (at xs 2) (at xs 3) (at xs 4) (at xs 5)
     && part_written (at xs 6) (at xs 7) (at xs 8) (at xs 9) (at xs 10) (at xs 11)
-    then Fit (effect_at xs)
-    else Unfit
+    then Some (effect_at xs)
+    else None
 
-unfoldable pub effect_in : List ℕ → EffectIn
-effect_in xs = when within effect_limits xs then effect_written xs else Unfit
+unfoldable pub effect_in : List ℕ → Option Effect
+effect_in xs = when within effect_limits xs then effect_written xs else None
 
 -- a part's numbers
 abbrev pub part_numbers : Part → PartNumbers

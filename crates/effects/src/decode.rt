@@ -7,14 +7,9 @@ use joining::{Effect, Part};
 use memory::Refusal;
 use numbers::decode;
 
-// An effect, or that the numbers are none.
-#[derive(Clone, Copy)]
-pub enum EffectIn {
-    Fit(Effect),
-    Unfit,
-}
-
-pub fn effect_in(numbers: &[u32]) -> EffectIn
+// An effect from 12 numbers, each within its limit, that the effect call writes.
+#[tactic(auto, unfolding(crate::specs::EffectNumbers::effect_in))]
+pub fn effect_in(numbers: &[u32]) -> Option<Effect>
     ensures { result ≡ effect_in numbers.now }
 {
     let limits = [
@@ -34,10 +29,11 @@ pub fn effect_in(numbers: &[u32]) -> EffectIn
     if decode::within(&limits, numbers) {
         effect_written(numbers)
     } else {
-        EffectIn::Unfit
+        None
     }
 }
 
+// A part from its numbers: a refusal where its number is not 0, else a set or a keep.
 fn part_at(number: u32, row: u32, address: u32, from: u32, sets: u32, word: u32) -> Part
     requires { (number ≤ 255) × (word ≤ 65535) }
     ensures { result ≡ part_at number row address from sets word }
@@ -58,16 +54,17 @@ fn part_at(number: u32, row: u32, address: u32, from: u32, sets: u32, word: u32)
 }
 
 // An effect, where both parts are as the effect call writes them.
-fn effect_written(n: &[u32]) -> EffectIn
+#[tactic(auto, unfolding(crate::specs::EffectNumbers::effect_written))]
+fn effect_written(n: &[u32]) -> Option<Effect>
     requires { Within effect_limits n.now }
     ensures { result ≡ effect_written n.now }
 {
     let clear = part_written(n[0], n[1], n[2], n[3], n[4], n[5]);
     let set = part_written(n[6], n[7], n[8], n[9], n[10], n[11]);
     if clear & set {
-        EffectIn::Fit(effect_at(n))
+        Some(effect_at(n))
     } else {
-        EffectIn::Unfit
+        None
     }
 }
 
@@ -89,6 +86,8 @@ fn of_effect(n: u32) -> bool
     ((2 <= n) & (n <= 4)) | ((7 <= n) & (n <= 13)) | (n == 17)
 }
 
+// An effect from its numbers.
+#[tactic(auto, unfolding(crate::specs::EffectNumbers::effect_at))]
 fn effect_at(n: &[u32]) -> Effect
     requires { Within effect_limits n.now }
     ensures { result ≡ effect_at n.now }

@@ -1,9 +1,8 @@
 // An effect as numbers at their places.
-ghost use Rattle.std.specs.Prelude.{◌≡◌, length};
+ghost use Rattle.std.specs.Prelude.{◌≡◌};
 ghost use Rattle.effects.specs.EffectNumbers.{part_numbers, effect_numbers};
 
 use joining::{Effect, Part};
-use numbers::encode;
 
 // A part's numbers: number, row and address of its refusal, and where its pointer begins; whether it sets the latch, and the word.
 #[derive(Drop)]
@@ -16,21 +15,22 @@ pub(crate) struct PartNumbers {
     word: u32,
 }
 
-pub fn write_effect(effect: Effect, into: &mut [u32])
-    requires { length into.old ≡ 12 }
+// An effect's numbers: those of the part for ignore clear, then of the one for ignore set.
+#[tactic(auto, unfolding(crate::specs::EffectNumbers::effect_numbers))]
+pub fn write_effect(effect: Effect, into: &mut [u32; 12])
     ensures { into.new ≡ effect_numbers effect }
 {
     let clear = effect.clear;
     let set = effect.set;
     let c = part_numbers(clear);
     let s = part_numbers(set);
-    let numbers = [
+    *into = [
         c.number, c.row, c.address, c.from, c.sets, c.word, s.number, s.row, s.address, s.from,
         s.sets, s.word,
     ];
-    encode::write(&numbers, into);
 }
 
+// A part's numbers: what the part does not use is 0.
 fn part_numbers(part: Part) -> PartNumbers
     ensures { result ≡ part_numbers part }
 {

@@ -1,44 +1,44 @@
 -- A line's place in rows by their heights, and the row there, as going through the rows finds them.
+use Rattle.std.proofs.Common.{Option, Some, None}
 use mathlib.Core.Path.{◌≡◌, refl, sym, ap, subst, ◌∙◌}
 use mathlib.Core.Bool.{Bool, true, false}
 use mathlib.Core.List.{List, [], ◌∷◌, ◌++◌}
-use mathlib.Core.Option.{Option, none, some}
+use mathlib.Core.Option.{Option as Maybe, none, some}
 use Prim.Native.Nat.{ℕ, suc, ◌+◌, ◌-◌, ◌<◌, ◌≤◌}
 use native.Mathlib.Omega.{arith}
 use native.Mathlib.Nat.{add-zero}
 use lib.ListN.{length, take, drop}
 use lib.Dec.{ltb}
 use Rattle.memory.specs.Word.{when◌then◌else◌}
-use Rattle.panel.specs.declared.Placed.{Placed}
-use Rattle.panel.specs.declared.Placed.TheVariants.{Nowhere, At}
 use Rattle.panel.specs.Line.{place_at, later, place}
+use Rattle.panel.specs.declared.Place.{Place}
 use Rattle.picture.specs.Picture.{PictureRow, heights_of, first}
 use Rattle.finding.specs.Finding.{Located, located, beyond, locate}
 
 -- the place of a located line, the row there, and how many rows further on it is counted
-abbrev pub placed_of : Located → Placed
-placed_of (located j l r) = At (place_at j l (r.height - l))
-placed_of (beyond k) = Nowhere
+abbrev pub placed_of : Located → Option Place
+placed_of (located j l r) = Some (place_at j l (r.height - l))
+placed_of (beyond k) = None
 
-abbrev pub row_of : Located → Option PictureRow
+abbrev pub row_of : Located → Maybe PictureRow
 row_of (located j l r) = some r
 row_of (beyond k) = none
 
-abbrev moved : ℕ → Placed → Placed
-moved i Nowhere = Nowhere
-moved i (At p) = At (place_at (i + p.index) p.line p.left)
+abbrev moved : ℕ → Option Place → Option Place
+moved i None = None
+moved i (Some p) = Some (place_at (i + p.index) p.line p.left)
 
-moved_later : (i : ℕ) (p : Placed) → moved i (later p) ≡ moved (suc i) p
-moved_later i Nowhere = refl
-moved_later i (At p) = ap (λ (n : ℕ). At (place_at n p.line p.left)) (omega arith)
+moved_later : (i : ℕ) (p : Option Place) → moved i (later p) ≡ moved (suc i) p
+moved_later i None = refl
+moved_later i (Some p) = ap (λ (n : ℕ). Some (place_at n p.line p.left)) (omega arith)
 
 module _ (r : PictureRow) (rs : List PictureRow) (z : ℕ) where
   abbrev h : ℕ
   h = r.height
 
   by-test : (t : Bool) (i : ℕ) → moved (suc i) (place (heights_of rs) (z - h)) ≡ placed_of (locate (suc i) rs (z - h))
-      → moved i (when t then At (place_at 0 z (h - z)) else later (place (heights_of rs) (z - h))) ≡ placed_of (when t then located i z r else locate (suc i) rs (z - h))
-  by-test true i e = ap (λ (n : ℕ). At (place_at n z (h - z))) (add-zero i)
+      → moved i (when t then Some (place_at 0 z (h - z)) else later (place (heights_of rs) (z - h))) ≡ placed_of (when t then located i z r else locate (suc i) rs (z - h))
+  by-test true i e = ap (λ (n : ℕ). Some (place_at n z (h - z))) (add-zero i)
   by-test false i e = moved_later i (place (heights_of rs) (z - h)) ∙ e
 
 moved-place : (i : ℕ) (rs : List PictureRow) (z : ℕ) → moved i (place (heights_of rs) z) ≡ placed_of (locate i rs z)
@@ -46,26 +46,26 @@ unfolding place locate
 moved-place i [] z = refl
 moved-place i (r ∷ rs) z = by-test r rs z (ltb z r.height) i (moved-place (suc i) rs (z - r.height))
 
-moved_none : (p : Placed) → moved 0 p ≡ p
-moved_none Nowhere = refl
-moved_none (At p) = ap (λ (n : ℕ). At (place_at n p.line p.left)) (omega arith)
+moved_none : (p : Option Place) → moved 0 p ≡ p
+moved_none None = refl
+moved_none (Some p) = ap (λ (n : ℕ). Some (place_at n p.line p.left)) (omega arith)
 
 -- the place of a line
 pub place_found : (rs : List PictureRow) (z : ℕ) → place (heights_of rs) z ≡ placed_of (locate 0 rs z)
 place_found rs z = sym (moved_none (place (heights_of rs) z)) ∙ moved-place 0 rs z
 
 -- the row at a place
-abbrev pub row_in : List PictureRow → Placed → Option PictureRow
-row_in rs Nowhere = none
-row_in rs (At p) = first (drop p.index rs)
+abbrev pub row_in : List PictureRow → Option Place → Maybe PictureRow
+row_in rs None = none
+row_in rs (Some p) = first (drop p.index rs)
 
-row-later : (r : PictureRow) (rs : List PictureRow) (p : Placed) → row_in (r ∷ rs) (later p) ≡ row_in rs p
-row-later r rs Nowhere = refl
-row-later r rs (At p) = refl
+row-later : (r : PictureRow) (rs : List PictureRow) (p : Option Place) → row_in (r ∷ rs) (later p) ≡ row_in rs p
+row-later r rs None = refl
+row-later r rs (Some p) = refl
 
 module _ (r : PictureRow) (rs : List PictureRow) (z i : ℕ) where
   by-test-row : (t : Bool) → row_in rs (place (heights_of rs) (z - r.height)) ≡ row_of (locate (suc i) rs (z - r.height))
-      → row_in (r ∷ rs) (when t then At (place_at 0 z (r.height - z)) else later (place (heights_of rs) (z - r.height)))
+      → row_in (r ∷ rs) (when t then Some (place_at 0 z (r.height - z)) else later (place (heights_of rs) (z - r.height)))
       ≡ row_of (when t then located i z r else locate (suc i) rs (z - r.height))
   by-test-row true e = refl
   by-test-row false e = row-later r rs (place (heights_of rs) (z - r.height)) ∙ e

@@ -1,4 +1,5 @@
 -- The rows from a state on, by its next row call with any right buffer; the words read before do not matter to them.
+use Rattle.std.proofs.Common.{Result, Ok, Err}
 use mathlib.Core.Path.{◌≡◌, refl, ap, ◌∙◌}
 use mathlib.Core.Bool.{Bool, true, false}
 use mathlib.Core.List.{List, ◌∷◌}
@@ -15,8 +16,6 @@ use Rattle.memory.proofs.ReadBounds.{Words}
 use Rattle.settings.specs.declared.Settings.{Settings}
 use Rattle.state.specs.declared.State.{State}
 use Rattle.row.specs.declared.DrawnRow.{DrawnRow}
-use Rattle.row.specs.declared.RowAnswer.{RowAnswer}
-use Rattle.row.specs.declared.RowAnswer.TheVariants as Row
 use Rattle.memory.specs.Reading.{Outcome, given, refused as refused-by, run}
 use Rattle.row.specs.Row.{Row, row as row_read, Called, called, answered, row_call}
 use Rattle.frame.specs.declared.Progress.{Progress}
@@ -37,10 +36,10 @@ progress s w = record { state = s; words = w }
 
 module _ (σ : Settings) (m : List ℕ) where
   by-row-answer : (f g : Progress → Frame) (s : State) (v w : ℕ) → ((t : State) (a b : ℕ) → uncounted (f (progress t a)) ≡ uncounted (g (progress t b)))
-      → (x : RowAnswer) (cells : List ℕ)
+      → (x : Result DrawnRow Refusal) (cells : List ℕ)
       → uncounted (by_answer f (progress s v) (row_step (progress s v) x) cells) ≡ uncounted (by_answer g (progress s w) (row_step (progress s w) x) cells)
-  by-row-answer f g s v w same (Row.Accepted d) cells = ap (with_row d cells) (same d.next (v + d.words) (w + d.words))
-  by-row-answer f g s v w same (Row.Refused r) cells = refl
+  by-row-answer f g s v w same (Ok d) cells = ap (with_row d cells) (same d.next (v + d.words) (w + d.words))
+  by-row-answer f g s v w same (Err r) cells = refl
 
   by_lines : (f g : Progress → Frame) (s : State) (v w : ℕ) → ((t : State) (a b : ℕ) → uncounted (f (progress t a)) ≡ uncounted (g (progress t b)))
       → (t : Bool) (c : Called)
@@ -65,17 +64,17 @@ module _ (σ : Settings) (m : List ℕ) where
     at-end e = next-step σ m words (from s) blank refl ∙ rw (no_line σ m (from s) blank e)
 
     module _ (b : List ℕ) (l : length b ≡ 132) (more : s.fields.left ≡ 0 → ⊥) where
-      pub refused : {r : Refusal} {cells : List ℕ} → called (Row.Refused r) cells ≡ row_call σ m s b → rest_of σ m s ≡ stopped (some r) (from s)
+      pub refused : {r : Refusal} {cells : List ℕ} → called (Err r) cells ≡ row_call σ m s b → rest_of σ m s ≡ stopped (some r) (from s)
       refused e = next-step σ m words (from s) b l ∙ rw (← by_row σ m (from s) b more e)
 
-      pub drawn : {d : DrawnRow} {cells : List ℕ} → called (Row.Accepted d) cells ≡ row_call σ m s b
+      pub drawn : {d : DrawnRow} {cells : List ℕ} → called (Ok d) cells ≡ row_call σ m s b
           → uncounted (rest_of σ m s) ≡ uncounted (with_row d cells (rest_of σ m d.next))
       drawn {d} {cells} e =
           let next : rest_of σ m s ≡ with_row d cells (rest σ m (after (from s) d)) = next-step σ m words (from s) b l ∙ rw (← by_row σ m (from s) b more e) in
           ap uncounted next ∙ ap (with_row d cells) (rest-words d.next (0 + d.words) 0)
 
       -- the row that was drawn, and those after it
-      module _ {d : DrawnRow} {cells : List ℕ} (e : called (Row.Accepted d) cells ≡ row_call σ m s b) where
+      module _ {d : DrawnRow} {cells : List ℕ} (e : called (Ok d) cells ≡ row_call σ m s b) where
         abbrev row : PictureRow
         row = picture_row σ m s (frame_row d cells)
 
@@ -126,12 +125,12 @@ module _ {σ : Settings} {m : List ℕ} (words : Words m) {s₀ s : State} {z k 
     nonzero : s.fields.left ≡ 0 → ⊥
     nonzero e = omega arith
 
-    pub stops : {r : Refusal} {cells : List ℕ} → called (Row.Refused r) cells ≡ row_call σ m s b → Passed σ m s₀ z (some r) k
+    pub stops : {r : Refusal} {cells : List ℕ} → called (Err r) cells ≡ row_call σ m s b → Passed σ m s₀ z (some r) k
     stops e =
         let f = refused σ m words s b l nonzero e in
         record { place = t.place ∙ no_rows σ m s i k f; ended = t.refusal ∙ ap (λ (f : Frame). f.refusal) f }
 
-    module _ {d : DrawnRow} {cells : List ℕ} (e : called (Row.Accepted d) cells ≡ row_call σ m s b) where
+    module _ {d : DrawnRow} {cells : List ℕ} (e : called (Ok d) cells ≡ row_call σ m s b) where
       pub finds : k < d.next.fields.format.lines → locate 0 (rows_of σ m s₀) z ≡ located i k (picture_row σ m s (frame_row d cells))
       finds h = t.place ∙ here σ m words s b l nonzero e i k h
 
@@ -161,10 +160,10 @@ module _ {σ : Settings} {m : List ℕ} (words : Words m) {s₀ s : State} (t : 
     not-zero : s.fields.left ≡ 0 → ⊥
     not-zero e = omega arith
 
-    pub end-stops : {r : Refusal} {cells : List ℕ} → called (Row.Refused r) cells ≡ row_call σ m s b → (rest_of σ m s₀).refusal ≡ some r
+    pub end-stops : {r : Refusal} {cells : List ℕ} → called (Err r) cells ≡ row_call σ m s b → (rest_of σ m s₀).refusal ≡ some r
     end-stops e = t.refusal ∙ ap (λ (f : Frame). f.refusal) (refused σ m words s b l not-zero e)
 
-    module _ {d : DrawnRow} {cells : List ℕ} (e : called (Row.Accepted d) cells ≡ row_call σ m s b) where
+    module _ {d : DrawnRow} {cells : List ℕ} (e : called (Ok d) cells ≡ row_call σ m s b) where
       pub end-less : d.next.fields.left < s.fields.left
       end-less = (goes σ m words s b l not-zero e).fewer
 

@@ -1,5 +1,5 @@
 -- Which row has a line, found by going through the rows: what the functions of this crate give. No rules of their own.
-use Rattle.std.specs.Prelude.{ℕ, suc, ◌-◌, ◌≡◌, List, [], ◌∷◌, ltb}
+use Rattle.std.specs.Prelude.{ℕ, suc, ◌-◌, ◌≡◌, List, [], ◌∷◌, ltb, Result, Ok, Err}
 use Rattle.std.proofs.Math.Option.{Option, none, some}
 use Rattle.memory.specs.Word.{when◌then◌else◌}
 use Rattle.memory.specs.declared.Refusal.{Refusal}
@@ -10,8 +10,6 @@ use Rattle.frame.specs.Frame.{Frame, frame_row, rest}
 use Rattle.picture.specs.Picture.{PictureRow, picture_row, picture_rows}
 use Rattle.finding.specs.declared.Walked.{Walked}
 use Rattle.finding.specs.declared.Walked.TheVariants.{At, Past, Stopped}
-use Rattle.finding.specs.declared.FrameEnd.{FrameEnd}
-use Rattle.finding.specs.declared.FrameEnd.TheVariants as End
 
 -- where a line is in rows, counted from a number on: the row's number, the scan line, the row; or how many lines past them it is
 pub data Located : Type 0 where
@@ -44,6 +42,6 @@ Walks σ m s z (Past t k) cells = Passed σ m s z none k × ((rest_of σ m s).st
 Walks σ m s z (Stopped r k) cells = Passed σ m s z (some r) k
 
 -- how a frame ended
-abbrev pub Ends : Settings → List ℕ → State → FrameEnd → Type 0
-Ends σ m s (End.Ended t) = ((rest_of σ m s).refusal ≡ none) × ((rest_of σ m s).state ≡ some t)
-Ends σ m s (End.Refused r) = (rest_of σ m s).refusal ≡ some r
+abbrev pub Ends : Settings → List ℕ → State → Result State Refusal → Type 0
+Ends σ m s (Ok t) = ((rest_of σ m s).refusal ≡ none) × ((rest_of σ m s).state ≡ some t)
+Ends σ m s (Err r) = (rest_of σ m s).refusal ≡ some r

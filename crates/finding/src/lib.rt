@@ -7,10 +7,10 @@ ghost use Rattle.finding.specs.Finding.{Walks, Ends};
 
 use memory::Refusal;
 use panel::Columns;
-use row::{DrawnRow, RowAnswer};
+use row::DrawnRow;
 use settings::Settings;
 use state::State;
-use windows::WindowInHand;
+use windows::Window;
 
 // A row that has a line: its number among the rows, the scan line, its answer and the state before it.
 #[derive(Clone, Copy)]
@@ -29,13 +29,6 @@ pub enum Walked {
     Stopped { refusal: Refusal, line: u64 },
 }
 
-// How a frame ended: its last state, or its refusal.
-#[derive(Clone, Copy)]
-pub enum FrameEnd {
-    Ended(State),
-    Refused(Refusal),
-}
-
 // The row that has line z of the rows from a state on, its cells in the buffer.
 pub fn walk(settings: Settings, mem: &[u16], state: State, z: u64, cells: &mut [u32]) -> Walked
     requires { length cells.old ≡ 132 }
@@ -46,10 +39,10 @@ pub fn walk(settings: Settings, mem: &[u16], state: State, z: u64, cells: &mut [
     let mut index = 0;
     while 0 < before.fields.left {
         match row::row(settings, mem, before, cells) {
-            RowAnswer::Refused(refusal) => {
+            Err(refusal) => {
                 return Walked::Stopped { refusal, line };
             }
-            RowAnswer::Accepted(row) => {
+            Ok(row) => {
                 let next = row.next;
                 let height = next.fields.format.lines as u64;
                 if line < height {
@@ -73,32 +66,26 @@ pub fn walk(settings: Settings, mem: &[u16], state: State, z: u64, cells: &mut [
 }
 
 // The rows from a state on, to their end.
-pub fn end_of(settings: Settings, mem: &[u16], state: State) -> FrameEnd
+pub fn end_of(settings: Settings, mem: &[u16], state: State) -> Result<State, Refusal>
     ensures { Ends settings mem.now state result }
 {
     let mut before = state;
     let mut cells = [0u32; 132];
     while 0 < before.fields.left {
-        match row::row(settings, mem, before, &mut cells) {
-            RowAnswer::Refused(refusal) => {
-                return FrameEnd::Refused(refusal);
-            }
-            RowAnswer::Accepted(row) => {
-                let next = row.next;
-                before = next;
-            }
-        }
+        let row = row::row(settings, mem, before, &mut cells)?;
+        let next = row.next;
+        before = next;
     }
-    FrameEnd::Ended(before)
+    Ok(before)
 }
 
 // The columns of the window on a row, from the row's number and the window in hand after it.
-pub fn columns_of(number: u32, window: WindowInHand) -> Columns
+pub fn columns_of(number: u32, window: Option<Window>) -> Columns
     ensures { result ≡ columns_of number «window» }
 {
     match window {
-        WindowInHand::Absent => no_columns(),
-        WindowInHand::Present(w) => {
+        None => no_columns(),
+        Some(w) => {
             let block = w.block;
             if (block.top as u32 <= number) & (number <= block.bottom as u32) {
                 Columns {

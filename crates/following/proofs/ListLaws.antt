@@ -1,4 +1,5 @@
 -- The trails of blocks and windows: one law for each way through a definition.
+use Rattle.std.proofs.Common.{Option, Some, None}
 use mathlib.Core.Path.{◌≡◌, refl, ap, ◌∙◌}
 use mathlib.Core.Bool.{Bool, true, false, ◌&&◌, not}
 use mathlib.Core.List.{List, []}
@@ -17,8 +18,6 @@ use Rattle.blocks.specs.declared.RowFormat.{RowFormat}
 use Rattle.blocks.specs.Main.{main_block_at}
 use Rattle.blocks.specs.RowBlock.{RowBlock, segment_roles, rest_of_block, block_at, row_block_at, window_row_at, redefined}
 use Rattle.windows.specs.declared.Window.{Window}
-use Rattle.windows.specs.declared.WindowInHand.{WindowInHand}
-use Rattle.windows.specs.declared.WindowInHand.TheVariants.{Absent, Present}
 use Rattle.windows.specs.Window.{window_of, in_order, two_pointers, window_at, due_window}
 use Rattle.layout.specs.Layout.{total, all_fit, over, edges_fit}
 use Rattle.layout.specs.Overlay.{Overlaid, with_rows, window_row, overlaid}
@@ -70,7 +69,7 @@ module _ (held : ℕ) (m : List ℕ) where
     pub window-words : null p ≡ false → trail held m marks (window_at l number least p) ≡ trail held m marks (read_as two_pointers (words l 6 p))
     unfolding window_at
     window-words e = rw e (trail-quiet held m marks (read_as two_pointers (words l 6 p)) _
-        (λ b marks₁. let w : Window = window_of l number p.address b in quiet_check marks₁ 8 p (in_order w.block && leb least w.block.top) (λ _. done (Present w)) (λ u. trail-done held m marks₁ (Present w))))
+        (λ b marks₁. let w : Window = window_of l number p.address b in quiet_check marks₁ 8 p (in_order w.block && leb least w.block.top) (λ _. done (Some w)) (λ u. trail-done held m marks₁ (Some w))))
 
   -- a redefinition
   module _ (marks : List ℕ) (l : Bool) (p : Pointer) (format : RowFormat) where
@@ -147,23 +146,23 @@ module _ (held : ℕ) (m : List ℕ) where
 
   -- the window on a row
   module _ (marks : List ℕ) (σ : Settings) (row : ℕ) where
-    pub overlay-absent : trail held m marks (overlaid σ row Absent) ≡ passed marks
+    pub overlay-absent : trail held m marks (overlaid σ row None) ≡ passed marks
     unfolding overlaid trail
     overlay-absent = refl
 
-    pub overlay-off : (w : Window) → leb w.block.top row && leb row w.block.bottom ≡ false → trail held m marks (overlaid σ row (Present w)) ≡ passed marks
+    pub overlay-off : (w : Window) → leb w.block.top row && leb row w.block.bottom ≡ false → trail held m marks (overlaid σ row (Some w)) ≡ passed marks
     unfolding overlaid trail
     overlay-off w e = rw e
 
     pub overlay-on : (w : Window) → leb w.block.top row && leb row w.block.bottom ≡ true
-        → trail held m marks (overlaid σ row (Present w)) ≡ trail held m marks (block_at σ.linear false w.rows)
+        → trail held m marks (overlaid σ row (Some w)) ≡ trail held m marks (block_at σ.linear false w.rows)
     unfolding overlaid window_row window_row_at
     overlay-on w e =
         rw e (trail-quiet held m marks (block_at σ.linear false w.rows) _
         (λ b marks₁.
         let o : Overlaid = record {
           overlay = over w.block.number w.block.left (w.block.right + 1) b.segments;
-          window = Present (with_rows b.link w);
+          window = Some (with_rows b.link w);
         } in
         let narrow : Bool = leb (total σ.hidden b.segments) (w.block.right + 1 - w.block.left) in
         quiet_check marks₁ 9 w.rows (all_fit b.segments) (λ _. check 11 narrow >> done o)
@@ -171,22 +170,22 @@ module _ (held : ℕ) (m : List ℕ) where
 
   -- a due window
   module _ (marks : List ℕ) (l : Bool) (row : ℕ) where
-    pub due-absent : trail held m marks (due_window l row Absent) ≡ passed marks
+    pub due-absent : trail held m marks (due_window l row None) ≡ passed marks
     unfolding due_window trail
     due-absent = refl
 
-    pub due-not : (w : Window) → ltb w.block.bottom row ≡ false → trail held m marks (due_window l row (Present w)) ≡ passed marks
+    pub due-not : (w : Window) → ltb w.block.bottom row ≡ false → trail held m marks (due_window l row (Some w)) ≡ passed marks
     unfolding due_window trail
     due-not w e = rw e
 
     pub due-now : (w : Window) → ltb w.block.bottom row ≡ true
-        → trail held m marks (due_window l row (Present w)) ≡ trail held m marks (window_at l (w.block.number + 1) (w.block.bottom + 1) w.block.link)
+        → trail held m marks (due_window l row (Some w)) ≡ trail held m marks (window_at l (w.block.number + 1) (w.block.bottom + 1) w.block.link)
     unfolding due_window
     due-now w e = rw e
 
   -- the blocks of a row one after the other, then check 12
   module _ (marks : List ℕ) (σ : Settings) (f : Fields) where
-    module _ (w : WindowInHand) where
+    module _ (w : Option Window) where
       pub then-faulted : {x : Fault} → trail held m marks (background_row σ f) ≡ faulted x → trail held m marks (from_background σ f w) ≡ faulted x
       then-faulted e = trail-faulted held m marks (background_row σ f) _ e
 
@@ -208,7 +207,7 @@ module _ (held : ℕ) (m : List ℕ) where
         → run m (due_window σ.linear f.row f.window) ≡ refused x → trail held m marks (from_blocks σ f) ≡ passed marks₁
     due-refused e r = trail-refused held m marks (due_window σ.linear f.row f.window) _ e r
 
-    pub due-given : {marks₁ : List ℕ} {n : ℕ} {w : WindowInHand} → trail held m marks (due_window σ.linear f.row f.window) ≡ passed marks₁
+    pub due-given : {marks₁ : List ℕ} {n : ℕ} {w : Option Window} → trail held m marks (due_window σ.linear f.row f.window) ≡ passed marks₁
         → run m (due_window σ.linear f.row f.window) ≡ given n w → trail held m marks (from_blocks σ f) ≡ trail held m marks₁ (from_background σ f w)
     due-given e r = trail-given held m marks (due_window σ.linear f.row f.window) (from_background σ f) e r
 

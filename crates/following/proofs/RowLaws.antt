@@ -1,4 +1,5 @@
 -- The walk of a row and of a frame, from the walks of their parts.
+use Rattle.std.proofs.Common.{Result, Ok, Err, IfOk, Option, Some, None}
 use mathlib.Core.Path.{◌≡◌, refl, ap, sym, ◌∙◌}
 use mathlib.Core.Bool.{Bool, false}
 use mathlib.Core.List.{List}
@@ -15,18 +16,16 @@ use Rattle.settings.specs.declared.Settings.{Settings}
 use Rattle.blocks.specs.declared.FillMode.{FillMode}
 use Rattle.blocks.specs.declared.MainBlock.{MainBlock}
 use Rattle.layout.specs.declared.OverlayHead.{OverlayHead}
-use Rattle.layout.specs.declared.OverlayHead.TheVariants.{NoOverlay, Over}
 use Rattle.layout.specs.Answers.{overlay_of}
 use Rattle.state.specs.declared.Fields.{Fields}
 use Rattle.state.specs.declared.State.{State}
 use Rattle.windows.specs.Window.{first_window, window_at}
-use Rattle.start.specs.declared.StartAnswer.TheVariants as Start
 use Rattle.start.specs.declared.Started.{Started}
 use Rattle.start.specs.Top.{registered, top_block}
 use Rattle.start.specs.Start.{window_start, main_start, started}
 use Rattle.plan.specs.declared.PlanHead.{PlanHead}
 use Rattle.plan.specs.Plan.{Plan, from_state}
-use Rattle.plan.specs.Answers.{plan_of}
+use Rattle.plan.specs.Answers.{plan_answer}
 use Rattle.codes.specs.declared.Pen.{Pen}
 use Rattle.codes.specs.Codes.{Drawing, blank}
 use Rattle.cells.specs.Cells.{row_cells}
@@ -44,13 +43,14 @@ use Rattle.following.specs.Answers.{state_of_walk}
 
 -- ---- a row ----
 -- a window that passed checks 8 and 11 has its columns within the row
-narrow-by : (hidden l : Bool) (o : OverlayHead) (ws : List ℕ) → Inside hidden (overlay_of l o ws) → Narrow o
-narrow-by hidden l NoOverlay ws h = tt
-narrow-by hidden l (Over number first end count) ws h = (omega arith, h.2)
+narrow-by : (hidden l : Bool) (o : Option OverlayHead) (ws : List ℕ) → Inside hidden (overlay_of l o ws) → Narrow o
+narrow-by hidden l None ws h = tt
+narrow-by hidden l (Some o) ws h = (omega arith, h.2)
 
-pub narrow : (σ : Settings) (m : List ℕ) → Words m → (f : Fields) {n : ℕ} (p : PlanHead) (bs os : List ℕ)
-    → given n (plan_of σ.linear p bs os) ≡ run m (from_state σ f) → Narrow p.overlay
-narrow σ m w f p bs os e = narrow-by σ.hidden σ.linear p.overlay os (reads-given 0 m w (state-reads σ f) (sym e)).1.inside
+pub narrow : (σ : Settings) (m : List ℕ) → Words m → (f : Fields) (r : Result PlanHead Fault) (bs os : List ℕ)
+    → plan_answer σ.linear r bs os ≡ run m (from_state σ f) → IfOk r (λ p. Narrow p.overlay)
+narrow σ m w f (Ok p) bs os e = narrow-by σ.hidden σ.linear p.overlay os (reads-given 0 m w (state-reads σ f) (sym e)).1.inside
+narrow σ m w f (Err x) bs os e = tt
 
 module _ (σ : Settings) (m marks : List ℕ) where
   module _ (fill : FillMode) (latch : ℕ) (p : Plan) where
@@ -88,15 +88,12 @@ module _ (σ : Settings) (m marks : List ℕ) where
   -- ---- rows ----
   by-halted : {x : Fault} (row : ℕ) (w : Walked Row) (k : List ℕ → Row → Followed) → halted x ≡ state_of_walk w → stopped (refusal row x) ≡ onwards row w k
   by-halted row (went marks₁ r) k e = cc
-  by-halted {x} row (halted y) k e = let same : x ≡ y = cc in ap (λ (z : Fault). stopped (refusal row z)) same
+  by-halted row (halted y) k e = cc
 
   by_went : {marks₁ : List ℕ} {s₁ : State} (row : ℕ) (w : Walked Row) (k : List ℕ → State → Followed) → went marks₁ s₁ ≡ state_of_walk w
       → k marks₁ s₁ ≡ onwards row w (λ marks₂ r. k marks₂ (state_after r))
-  by_went {marks₁} {s₁} row (went marks₂ r) k e =
-      let list : marks₁ ≡ marks₂ = cc in
-      let state : s₁ ≡ state_after r = cc in
-      rw (list, state)
-  by_went row (halted y) k e = let q : ◌≡◌ {A = ℕ} 0 1 = cc in absurd (omega arith)
+  by_went row (went marks₂ r) k e = cc
+  by_went row (halted y) k e = cc
 
   module _ (s : State) where
     pub rows_none : (n : ℕ) → n ≡ 0 → ended marks ≡ follow_rows n σ m marks s
@@ -149,27 +146,24 @@ module _ (σ : Settings) (m marks : List ℕ) where
 
     module _ {marks₁ : List ℕ} (t : trail tow m marks (window_at σ.linear 0 0 (registered σ.linear σ.tow)) ≡ passed marks₁)
         (e : given 7 b ≡ run m (top_block σ.linear σ.top)) where
-      start-refused : {r : Refusal} (o : Outcome State) → run_from 7 m (window_start latch σ b) ≡ o → Start.Refused r ≡ started o
+      start-refused : {r : Refusal} (o : Outcome State) → run_from 7 m (window_start latch σ b) ≡ o → Err r ≡ started o
           → stopped r ≡ follow_window latch σ m marks b
-      start-refused (given n s) h g = let q : ◌≡◌ {A = ℕ} 0 1 = cc in absurd (omega arith)
+      start-refused (given n s) h g = cc
       start-refused {r} (refused x) h g =
           let same : r ≡ refusal 0 x = cc in
           ap stopped same ∙ sym (ap (λ w. onwards 0 w rows) (joined-refused tow m marks (window_start latch σ b) 7 (window-trail ∙ t) h)) ∙ at-tow
 
-      start-given : {a : Started} (o : Outcome State) → run_from 7 m (window_start latch σ b) ≡ o → Start.Accepted a ≡ started o
+      start-given : {a : Started} (o : Outcome State) → run_from 7 m (window_start latch σ b) ≡ o → Ok a ≡ started o
           → follow_rows a.state.fields.left σ m marks₁ a.state ≡ follow_window latch σ m marks b
       start-given {a} (given n s) h g =
-          let same : a.state ≡ s = ap (λ (x : Started). x.state) (accepted g) in
+          let same : a.state ≡ s = cc in
           ap (rows marks₁) same ∙ sym (ap (λ w. onwards 0 w rows) (joined-given tow m marks (window_start latch σ b) 7 (window-trail ∙ t) h)) ∙ at-tow
-        where
-          accepted : {a c : Started} → Start.Accepted a ≡ Start.Accepted c → a ≡ c
-          accepted e = cc
-      start-given (refused x) h g = let q : ◌≡◌ {A = ℕ} 0 1 = cc in absurd (omega arith)
+      start-given (refused x) h g = cc
 
-      pub window-refused : {r : Refusal} → Start.Refused r ≡ started (run m (main_start latch σ)) → stopped r ≡ follow_window latch σ m marks b
+      pub window-refused : {r : Refusal} → Err r ≡ started (run m (main_start latch σ)) → stopped r ≡ follow_window latch σ m marks b
       window-refused g = start-refused (run_from 7 m (window_start latch σ b)) refl (g ∙ ap started (main-run e))
 
-      pub window-given : {a : Started} → Start.Accepted a ≡ started (run m (main_start latch σ))
+      pub window-given : {a : Started} → Ok a ≡ started (run m (main_start latch σ))
           → follow_rows a.state.fields.left σ m marks₁ a.state ≡ follow_window latch σ m marks b
       window-given g = start-given (run_from 7 m (window_start latch σ b)) refl (g ∙ ap started (main-run e))
 

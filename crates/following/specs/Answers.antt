@@ -1,8 +1,10 @@
 -- What the functions of this crate give, with the marks that they leave, as what following a frame gives: no rules of their own.
-use Rattle.std.specs.Prelude.{ℕ, List}
+use Rattle.std.specs.Prelude.{ℕ, List, Option, Result, Ok, Err}
 use Rattle.memory.specs.Reading.{Reading, done, ◌>>=◌, ◌>>◌, check}
+use Rattle.memory.specs.declared.Refusal.{Refusal}
+use Rattle.memory.specs.declared.Fault.{Fault}
 use Rattle.settings.specs.declared.Settings.{Settings}
-use Rattle.windows.specs.declared.WindowInHand.{WindowInHand}
+use Rattle.windows.specs.declared.Window.{Window}
 use Rattle.state.specs.declared.Fields.{Fields}
 use Rattle.state.specs.declared.State.{State}
 use Rattle.layout.specs.Layout.{edges_fit}
@@ -13,13 +15,9 @@ use Rattle.row.specs.Row.{Row}
 use Rattle.converter.specs.Walk.{Walked, went, halted}
 use Rattle.converter.specs.Below.{state_after}
 use Rattle.converter.specs.Converter.{Followed, ended, stopped}
-use Rattle.following.specs.declared.RowWalked.{RowWalked}
-use Rattle.following.specs.declared.RowWalked.TheVariants as Walks
-use Rattle.following.specs.declared.Following.{Following}
-use Rattle.following.specs.declared.Following.TheVariants as Follows
 
 -- the blocks of a row once its window is known
-abbrev pub from_background : Settings → Fields → WindowInHand → Reading Plan
+abbrev pub from_background : Settings → Fields → Option Window → Reading Plan
 from_background σ f w = do
   g ← background_row σ f
   o ← overlaid σ f.row w
@@ -32,11 +30,11 @@ state_of_walk (went marks r) = went marks (state_after r)
 state_of_walk (halted x) = halted x
 
 -- the answer of `walk_row`, with the marks
-abbrev pub row_walked : RowWalked → List ℕ → Walked State
-row_walked (Walks.Went s) marks = went marks s
-row_walked (Walks.Halted x) marks = halted x
+abbrev pub row_walked : Result State Fault → List ℕ → Walked State
+row_walked (Ok s) marks = went marks s
+row_walked (Err x) marks = halted x
 
 -- the answer of `follow`, with the marks
-abbrev pub followed : Following → List ℕ → Followed
-followed Follows.Ended marks = ended marks
-followed (Follows.Stopped r) marks = stopped r
+abbrev pub followed : Result (Unit {0}) Refusal → List ℕ → Followed
+followed (Ok tt) marks = ended marks
+followed (Err r) marks = stopped r

@@ -1,5 +1,6 @@
 -- What a caller gets who begins a frame and then steps, with any right row buffers, until a step draws no row: the rows of the frame,
 -- and in the last answer its counts of rows and words or its refusal.
+use Rattle.std.proofs.Common.{Ok}
 use mathlib.Core.Path.{◌≡◌, refl, sym, ap, ap₂, subst, ◌∙◌}
 use mathlib.Core.List.{List, [], ◌∷◌}
 use mathlib.Core.Option.{Option, none, some}
@@ -15,7 +16,6 @@ use Rattle.row.specs.declared.DrawnRow.{DrawnRow}
 use Rattle.start.specs.Start.{start_from, started}
 use Rattle.start.proofs.StartBound.{start-reads}
 use Rattle.frame.specs.declared.Progress.{Progress}
-use Rattle.frame.specs.declared.BeginAnswer.TheVariants as Begin
 use Rattle.frame.specs.declared.StepAnswer.{StepAnswer}
 use Rattle.frame.specs.declared.StepAnswer.TheVariants.{Drawn, Ended, Refused}
 use Rattle.frame.specs.Step.{begun, begin, Stepped, stepped, step, words_bound, in_bound}
@@ -97,13 +97,13 @@ module _ (σ : Settings) (m : List ℕ) (w : Words m) where
   calls-frame {p} h (ended b l e) = let k = frame-by p h b l e in rw k.0 (refl, ap₂ Ended (omega (arith, k.1.1)) k.1.2)
   calls-frame {p} h (refuses b l e) = let k = frame-by p h b l e in rw k.0 (refl, refl)
 
-  module _ (latch : ℕ) {p : Progress} (e : begin latch σ m ≡ Begin.Begun p) where
+  module _ (latch : ℕ) {p : Progress} (e : begin latch σ m ≡ Ok p) where
     -- a start gives a frame in progress at row 0, with the words of its start
     pub started-made : (p.state.fields.row ≡ 0) × Made p
     unfolding begin
     started-made = by-start (run m (start_from latch σ)) refl e
       where
-        by-start : (o : Outcome State) → run m (start_from latch σ) ≡ o → begun (started o) ≡ Begin.Begun p
+        by-start : (o : Outcome State) → run m (start_from latch σ) ≡ o → begun (started o) ≡ Ok p
             → (p.state.fields.row ≡ 0) × Made p
         by-start (given n s) h k =
             let b = reads-given 0 m w (start-reads latch σ) h in

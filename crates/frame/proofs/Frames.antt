@@ -1,5 +1,6 @@
 -- Of every frame: its next step with any right row buffer, and then the frame from there, is the frame; it ends, with no line left or
 -- a refusal, within 4,095 rows; its words are the start's and the rows' together, and its state's row number counts its rows.
+use Rattle.std.proofs.Common.{Result, Ok, Err}
 use mathlib.Core.Path.{◌≡◌, refl, ap, ◌∙◌}
 use mathlib.Core.List.{List}
 use mathlib.Core.Option.{Option, none, some}
@@ -16,8 +17,6 @@ use Rattle.row.specs.declared.DrawnRow.{DrawnRow}
 use Rattle.start.specs.Start.{start_from}
 use Rattle.start.proofs.StartBound.{start-reads}
 use Rattle.frame.specs.declared.Progress.{Progress}
-use Rattle.frame.specs.declared.BeginAnswer.{BeginAnswer}
-use Rattle.frame.specs.declared.BeginAnswer.TheVariants as Begin
 use Rattle.frame.specs.declared.StepAnswer.{StepAnswer}
 use Rattle.frame.specs.declared.StepAnswer.TheVariants.{Drawn, Ended, Refused}
 use Rattle.frame.specs.Step.{begin, step}
@@ -116,17 +115,17 @@ module _ (σ : Settings) (m : List ℕ) (w : Words m) where
   unfolding frame
   frame-ends latch = by-start (begin latch σ m)
     where
-      by-start : (x : BeginAnswer) → Ends (from_begin σ m x)
-      by-start (Begin.Begun p) = rest-ends p
-      by-start (Begin.Refused r) = refusing refl
+      by-start : (x : Result Progress Refusal) → Ends (from_begin σ m x)
+      by-start (Ok p) = rest-ends p
+      by-start (Err r) = refusing refl
 
   pub frame-rows : (latch : ℕ) → length (frame latch σ m).rows ≤ 4095
   unfolding frame
   frame-rows latch = by-start (begin latch σ m)
     where
-      by-start : (x : BeginAnswer) → length (from_begin σ m x).rows ≤ 4095
-      by-start (Begin.Begun p) = (rest-rows p).1
-      by-start (Begin.Refused r) = zero-le
+      by-start : (x : Result Progress Refusal) → length (from_begin σ m x).rows ≤ 4095
+      by-start (Ok p) = (rest-rows p).1
+      by-start (Err r) = zero-le
 
   -- an accepted start, which reads n words
   module _ (latch : ℕ) {n : ℕ} {s : State} (e : run m (start_from latch σ) ≡ given n s) where

@@ -1,6 +1,7 @@
 -- 02: "A frame starts with the latch that the frame before ended with, the first after reset with 0. A refused frame hands on the latch
 -- it was started with." The state that a frame ended with tells which; and in a list of frames a refused one leaves the others as they
 -- would be without it.
+use Rattle.std.proofs.Common.{Result, Ok, Err}
 use mathlib.Core.Path.{◌≡◌, refl, sym, ap, ◌∙◌}
 use mathlib.Core.List.{List, [], ◌∷◌}
 use mathlib.Core.Option.{Option, none, some}
@@ -12,8 +13,6 @@ use Rattle.memory.proofs.ReadBounds.{Words}
 use Rattle.settings.specs.declared.Settings.{Settings}
 use Rattle.state.specs.declared.State.{State}
 use Rattle.frame.specs.declared.Progress.{Progress}
-use Rattle.frame.specs.declared.BeginAnswer.{BeginAnswer}
-use Rattle.frame.specs.declared.BeginAnswer.TheVariants as Begin
 use Rattle.frame.specs.Step.{begin}
 use Rattle.frame.specs.Frame.{Frame, stopped, from_begin, frame, handed_on_by, handed_on, Screen, frames, from_reset}
 use Rattle.frame.specs.HandedOn.{latch_after, if_refused, accepted, kept}
@@ -38,9 +37,9 @@ module _ (latch : ℕ) where
   unfolding frame
   state-says σ m w = by-start (begin latch σ m)
     where
-      by-start : (x : BeginAnswer) → Says (from_begin σ m x)
-      by-start (Begin.Begun p) = induction σ m w (λ p f. Says f) ended refuses (λ p q r cells f h i. i) p
-      by-start (Begin.Refused r) = λ s e. let z : ◌≡◌ {A = ℕ} 0 1 = cc in absurd (omega arith)
+      by-start : (x : Result Progress Refusal) → Says (from_begin σ m x)
+      by-start (Ok p) = induction σ m w (λ p f. Says f) ended refuses (λ p q r cells f h i. i) p
+      by-start (Err r) = λ s e. let z : ◌≡◌ {A = ℕ} 0 1 = cc in absurd (omega arith)
 
 module _ {A : Type 0} {x : Option Refusal} (a b : A) where
   if_none : x ≡ none → if_refused x a b ≡ b

@@ -1,4 +1,5 @@
 -- The laws by which a proof follows a step: what it gives, that a row leaves fewer lines, and that its buffer's cells do not matter.
+use Rattle.std.proofs.Common.{Result}
 use mathlib.Core.Path.{◌≡◌, refl, sym, ap, subst}
 use mathlib.Core.Bool.{Bool, true, false}
 use mathlib.Core.List.{List}
@@ -9,9 +10,9 @@ use borrow.Author.Tests.{ne_eqb, eqb-true, eqb-false}
 use Rattle.memory.specs.Word.{when◌then◌else◌}
 use Rattle.memory.specs.Reading.{Outcome, given, refused, run}
 use Rattle.memory.proofs.ReadBounds.{Words, if-cases}
+use Rattle.memory.specs.declared.Refusal.{Refusal}
 use Rattle.settings.specs.declared.Settings.{Settings}
 use Rattle.row.specs.declared.DrawnRow.{DrawnRow}
-use Rattle.row.specs.declared.RowAnswer.{RowAnswer}
 use Rattle.row.specs.Row.{Row, row, Called, called, answered, row_call}
 use Rattle.row.proofs.RowBound.{row-drawn}
 use Rattle.frame.specs.declared.Progress.{Progress}
@@ -26,7 +27,7 @@ module _ (σ : Settings) (m : List ℕ) (p : Progress) (b : List ℕ) where
   unfolding step
   no_line e = rw e
 
-  pub by_row : (p.state.fields.left ≡ 0 → ⊥) → {answer : RowAnswer} {cells : List ℕ} → called answer cells ≡ row_call σ m p.state b
+  pub by_row : (p.state.fields.left ≡ 0 → ⊥) → {answer : Result DrawnRow Refusal} {cells : List ℕ} → called answer cells ≡ row_call σ m p.state b
       → stepped (row_step p answer) cells ≡ step σ m p b
   unfolding step
   by_row h e = rw (ne_eqb _ 0 h) (ap (λ (c : Called). stepped (row_step p c.answer) c.buffer) e)

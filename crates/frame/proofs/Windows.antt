@@ -1,6 +1,7 @@
 -- The windows of a frame. Rows rise along the chain: in every state of a frame the window in hand has a number at most its first row, so
 -- that no frame from a start meets that clause of check 3, and the number fits eight bits. A cell of source 2 names the window that it
 -- came from, on one of its rows, and two such cells with the same number came from one window block.
+use Rattle.std.proofs.Common.{Option, Some, None, Result, Ok, Err}
 use mathlib.Core.Path.{◌≡◌, refl, sym, ap, subst, ◌∙◌}
 use mathlib.Core.List.{List, [], ◌∷◌}
 use mathlib.Core.Logic.{◌⊎◌, inl, inr}
@@ -12,11 +13,10 @@ use Rattle.memory.specs.Reading.{Outcome, given, refused, run}
 use Rattle.memory.proofs.Agree.{All, none, also}
 use Rattle.memory.proofs.ReadBounds.{Words, reads-given, if-cases}
 use Rattle.memory.proofs.Gives.{run-gives}
+use Rattle.memory.specs.declared.Refusal.{Refusal}
 use Rattle.settings.specs.declared.Settings.{Settings}
 use Rattle.blocks.specs.declared.FillMode.{FillMode}
 use Rattle.windows.specs.declared.Window.{Window}
-use Rattle.windows.specs.declared.WindowInHand.{WindowInHand}
-use Rattle.windows.specs.declared.WindowInHand.TheVariants.{Absent, Present}
 use Rattle.windows.proofs.WindowBounds.{Placed, After, same, later, after-refl, after-trans}
 use Rattle.state.specs.declared.State.{State}
 use Rattle.layout.proofs.OverlayBounds.{OnRow}
@@ -28,26 +28,24 @@ use Rattle.row.specs.Row.{Row, row, Called, answered, row_call}
 use Rattle.row.proofs.RowBound.{row-drawn}
 use Rattle.row.proofs.RowWindow.{Named, cursor-named, row_named}
 use Rattle.frame.specs.declared.Progress.{Progress}
-use Rattle.frame.specs.declared.BeginAnswer.{BeginAnswer}
-use Rattle.frame.specs.declared.BeginAnswer.TheVariants as Begin
 use Rattle.frame.specs.declared.StepAnswer.{StepAnswer}
 use Rattle.frame.specs.declared.StepAnswer.TheVariants.{Drawn, Ended, Refused}
 use Rattle.frame.specs.Step.{begun, begin, row_step, Stepped, step}
 use Rattle.frame.specs.Frame.{FrameRow, Frame, by_answer, blank, within, rest, from_begin, frame}
 
 -- the window in hand after a start, and after a row: the one that the row's cells of source 2 came from
-abbrev pub in_hand_first : BeginAnswer → WindowInHand
-in_hand_first (Begin.Begun p) = p.state.fields.window
-in_hand_first (Begin.Refused r) = Absent
+abbrev pub in_hand_first : Result Progress Refusal → Option Window
+in_hand_first (Ok p) = p.state.fields.window
+in_hand_first (Err r) = None
 
-abbrev pub in_hand : FrameRow → WindowInHand
+abbrev pub in_hand : FrameRow → Option Window
 in_hand r = r.answer.next.fields.window
 
 -- rows one after the other, from a window in hand: each has the same window block, one with a larger number, or none; its number is at
 -- most its first row; and each cell of the row names it, or has no number
-pub data Chain : WindowInHand → List FrameRow → Type 0 where
-  end : {w : WindowInHand} → Chain w []
-  next : {w : WindowInHand} {r : FrameRow} {rs : List FrameRow} → After w (in_hand r) → Placed (in_hand r)
+pub data Chain : Option Window → List FrameRow → Type 0 where
+  end : {w : Option Window} → Chain w []
+  next : {w : Option Window} {r : FrameRow} {rs : List FrameRow} → After w (in_hand r) → Placed (in_hand r)
       → All (Named r.answer.number (in_hand r)) r.cells → Chain (in_hand r) rs → Chain w (r ∷ rs)
 
 -- one step, from a fill code of eight bits
@@ -126,22 +124,22 @@ all_in {P = P} {c = c} none i = elim i [ ]
 all_in (also h hs) here = h
 all_in (also h hs) (there i) = all_in hs i
 
-named_in : {w : WindowInHand} {rs : List FrameRow} {r : FrameRow} → Chain w rs → r ∈ rs → All (Named r.answer.number (in_hand r)) r.cells
+named_in : {w : Option Window} {rs : List FrameRow} {r : FrameRow} → Chain w rs → r ∈ rs → All (Named r.answer.number (in_hand r)) r.cells
 named_in {r = r} (end {w = w}) i = elim i [ ]
 named_in (next a p n c) here = n
 named_in (next a p n c) (there i) = named_in c i
 
-pub placed-in : {w : WindowInHand} {rs : List FrameRow} {r : FrameRow} → Chain w rs → r ∈ rs → Placed (in_hand r)
+pub placed-in : {w : Option Window} {rs : List FrameRow} {r : FrameRow} → Chain w rs → r ∈ rs → Placed (in_hand r)
 placed-in {r = r} (end {w = w}) i = elim i [ ]
 placed-in (next a p n c) here = p
 placed-in (next a p n c) (there i) = placed-in c i
 
-after-in : {w : WindowInHand} {rs : List FrameRow} {r : FrameRow} → Chain w rs → r ∈ rs → After w (in_hand r)
+after-in : {w : Option Window} {rs : List FrameRow} {r : FrameRow} → Chain w rs → r ∈ rs → After w (in_hand r)
 after-in {r = r} (end {w = w}) i = elim i [ ]
 after-in (next a p n c) here = a
 after-in (next a p n c) (there i) = after-trans a (after-in c i)
 
-either : {w : WindowInHand} {rs : List FrameRow} {r s : FrameRow} → Chain w rs → r ∈ rs → s ∈ rs
+either : {w : Option Window} {rs : List FrameRow} {r s : FrameRow} → Chain w rs → r ∈ rs → s ∈ rs
     → After (in_hand r) (in_hand s) ⊎ After (in_hand s) (in_hand r)
 either {r = r} {s = s} (end {w = w}) i _ = elim i [ ]
 either (next {r} a p n c) here here = inl (after-refl (in_hand r))
@@ -149,11 +147,11 @@ either (next a p n c) here (there j) = inl (after-in c j)
 either (next a p n c) (there i) here = inr (after-in c i)
 either (next a p n c) (there i) (there j) = either c i j
 
-one_block : {v w : Window} → After (Present v) (Present w) → v.block.number ≡ w.block.number → v.block ≡ w.block
+one_block : {v w : Window} → After (Some v) (Some w) → v.block.number ≡ w.block.number → v.block ≡ w.block
 one_block (same e) h = e
 one_block (later l) h = absurd (omega (arith, l, h))
 
-one-window : {v w : Window} → After (Present v) (Present w) ⊎ After (Present w) (Present v) → v.block.number ≡ w.block.number → v.block ≡ w.block
+one-window : {v w : Window} → After (Some v) (Some w) ⊎ After (Some w) (Some v) → v.block.number ≡ w.block.number → v.block ≡ w.block
 one-window (inl a) h = one_block a h
 one-window (inr a) h = sym (one_block a (sym h))
 

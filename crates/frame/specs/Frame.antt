@@ -1,15 +1,13 @@
 -- A frame: one start and its row calls until no line is left. Document 01 speaks of it in "A frame starts with row attributes 0, M6's
 -- lines, CURS 0, CURE 31." and of its end in "the lines run out"; 02 in "A frame starts with the latch that the frame before ended
 -- with" and "A refused frame".
-use Rattle.std.specs.Prelude.{ℕ, zero, suc, ◌+◌, List, [], ◌∷◌, replicate}
+use Rattle.std.specs.Prelude.{ℕ, zero, suc, ◌+◌, List, [], ◌∷◌, replicate, Result, Ok, Err}
 use Rattle.std.proofs.Math.Option.{Option, none, some}
 use Rattle.memory.specs.declared.Refusal.{Refusal}
 use Rattle.settings.specs.declared.Settings.{Settings}
 use Rattle.state.specs.declared.State.{State}
 use Rattle.row.specs.declared.DrawnRow.{DrawnRow}
 use Rattle.frame.specs.declared.Progress.{Progress}
-use Rattle.frame.specs.declared.BeginAnswer.{BeginAnswer}
-use Rattle.frame.specs.declared.BeginAnswer.TheVariants as Begin
 use Rattle.frame.specs.declared.StepAnswer.{StepAnswer}
 use Rattle.frame.specs.declared.StepAnswer.TheVariants.{Drawn, Ended, Refused}
 use Rattle.frame.specs.Step.{begin, Stepped, step}
@@ -65,9 +63,9 @@ within (suc n) σ m p = by_step (within n σ m) p (step σ m p blank)
 unfoldable pub rest : Settings → List ℕ → Progress → Frame
 rest σ m p = within p.state.fields.left σ m p
 
-abbrev pub from_begin : Settings → List ℕ → BeginAnswer → Frame
-from_begin σ m (Begin.Begun p) = rest σ m p
-from_begin σ m (Begin.Refused r) = not_started r
+abbrev pub from_begin : Settings → List ℕ → Result Progress Refusal → Frame
+from_begin σ m (Ok p) = rest σ m p
+from_begin σ m (Err r) = not_started r
 
 -- the frame from a start latch
 unfoldable pub frame : ℕ → Settings → List ℕ → Frame

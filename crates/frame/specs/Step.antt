@@ -1,28 +1,24 @@
 -- A frame in progress: how it begins, and one step of it.
-use Rattle.std.specs.Prelude.{ℕ, ◌+◌, ◌*◌, ◌<◌, min, List, eqb}
+use Rattle.std.specs.Prelude.{ℕ, ◌+◌, ◌*◌, ◌<◌, min, List, eqb, Result, Ok, Err}
 use Rattle.memory.specs.Word.{when◌then◌else◌}
 use Rattle.memory.specs.Reading.{run}
+use Rattle.memory.specs.declared.Refusal.{Refusal}
 use Rattle.settings.specs.declared.Settings.{Settings}
 use Rattle.row.specs.declared.DrawnRow.{DrawnRow}
-use Rattle.start.specs.declared.StartAnswer.{StartAnswer}
-use Rattle.start.specs.declared.StartAnswer.TheVariants as Start
-use Rattle.row.specs.declared.RowAnswer.{RowAnswer}
-use Rattle.row.specs.declared.RowAnswer.TheVariants as Row
 use Rattle.start.specs.Start.{start_from, started}
+use Rattle.start.specs.declared.Started.{Started}
 use Rattle.row.specs.Row.{Called, row_call}
 use Rattle.frame.specs.declared.Progress.{Progress}
-use Rattle.frame.specs.declared.BeginAnswer.{BeginAnswer}
-use Rattle.frame.specs.declared.BeginAnswer.TheVariants as Begin
 use Rattle.frame.specs.declared.StepAnswer.{StepAnswer}
 use Rattle.frame.specs.declared.StepAnswer.TheVariants.{Drawn, Ended, Refused}
 
 -- a frame in progress before its first row; "a refused start gives no state"
-abbrev pub begun : StartAnswer → BeginAnswer
-begun (Start.Accepted a) = Begin.Begun (record { state = a.state; words = a.words })
-begun (Start.Refused r) = Begin.Refused r
+abbrev pub begun : Result Started Refusal → Result Progress Refusal
+begun (Ok a) = Ok (record { state = a.state; words = a.words })
+begun (Err r) = Err r
 
 -- a start, from the latch that the frame before handed on
-unfoldable pub begin : ℕ → Settings → List ℕ → BeginAnswer
+unfoldable pub begin : ℕ → Settings → List ℕ → Result Progress Refusal
 begin latch σ m = begun (started (run m (start_from latch σ)))
 
 -- the frame in progress after an accepted row: the row's next state, and "every word read"
@@ -30,9 +26,9 @@ abbrev pub after : Progress → DrawnRow → Progress
 after p r = record { state = r.next; words = p.words + r.words }
 
 -- a row call's answer, as a step of the frame in progress p
-abbrev pub row_step : Progress → RowAnswer → StepAnswer
-row_step p (Row.Accepted r) = Drawn r (after p r)
-row_step p (Row.Refused r) = Refused r
+abbrev pub row_step : Progress → Result DrawnRow Refusal → StepAnswer
+row_step p (Ok r) = Drawn r (after p r)
+row_step p (Err r) = Refused r
 
 -- a step's answer, and what its row buffer then holds
 pub record Stepped : Type 0 where

@@ -5,9 +5,8 @@ ghost use Rattle.frame.specs.HandedOn.{latch_after, HandsOn};
 ghost use Rattle.frame.specs.Step.{begin, stepped, step, in_bound, words_bound, FewerLines};
 
 use memory::Refusal;
-use row::{DrawnRow, RowAnswer};
+use row::DrawnRow;
 use settings::Settings;
-use start::StartAnswer;
 use state::State;
 
 // A frame in progress: the state that its next row is called on, and the words that its start and its rows so far have read.
@@ -15,13 +14,6 @@ use state::State;
 pub struct Progress {
     pub state: State,
     pub words: u32,
-}
-
-// A frame in progress, or the refusal of its start.
-#[derive(Clone, Copy)]
-pub enum BeginAnswer {
-    Begun(Progress),
-    Refused(Refusal),
 }
 
 // A row, with the frame in progress after it; the end of the frame, whose row numbers stop before `rows`; or a refusal, which
@@ -34,19 +26,15 @@ pub enum StepAnswer {
 }
 
 // A frame's start from a latch: the frame in progress before its first row, or the start's refusal.
-pub fn begin(settings: Settings, mem: &[u16], latch: u16) -> BeginAnswer
+pub fn begin(settings: Settings, mem: &[u16], latch: u16) -> Result<Progress, Refusal>
     ensures { result ≡ begin latch settings mem.now }
 {
-    match start::start(settings, mem, latch) {
-        StartAnswer::Refused(refusal) => BeginAnswer::Refused(refusal),
-        StartAnswer::Accepted(started) => {
-            let state = started.state;
-            BeginAnswer::Begun(Progress {
-                state,
-                words: started.words,
-            })
-        }
-    }
+    let started = start::start(settings, mem, latch)?;
+    let state = started.state;
+    Ok(Progress {
+        state,
+        words: started.words,
+    })
 }
 
 // A frame's next row, its cells in `buffer`, while lines are left. A step that draws no row leaves the buffer as it was, and the
@@ -64,8 +52,8 @@ pub fn step(settings: Settings, mem: &[u16], progress: Progress, buffer: &mut [u
         };
     }
     match row::row(settings, mem, state, buffer) {
-        RowAnswer::Refused(refusal) => StepAnswer::Refused(refusal),
-        RowAnswer::Accepted(row) => {
+        Err(refusal) => StepAnswer::Refused(refusal),
+        Ok(row) => {
             let next = row.next;
             let progress = Progress {
                 state: next,
@@ -93,13 +81,6 @@ fn bound_words(words: u32, row: u32) -> u32
     ensures value { result ≡ min words (words_bound row) }
     ensures upper_bound { result ≤ 49152000 }
 {
-    let bound = 12000 * (least(row, 4095) + 1);
-    least(words, bound)
-}
-
-// The smaller of two numbers.
-fn least(a: u32, b: u32) -> u32
-    ensures { result ≡ min a b }
-{
-    if a < b { a } else { b }
+    let bound = 12000 * (row.min(4095) + 1);
+    words.min(bound)
 }

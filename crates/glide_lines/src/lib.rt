@@ -65,10 +65,10 @@ pub fn stretch_lines(
 ) -> usize
     ensures { Line (stretch_text settings stretch cells.now) result out.new }
 {
-    let columns = lines::cells_shown(settings);
+    let shown = &cells[..lines::cells_shown(settings)];
     let mut at = put_stretch(out, stretch);
-    at = put_characters(out, at, cells, columns);
-    lines::put_cells(out, at, cells, columns)
+    at = put_characters(out, at, shown);
+    lines::put_cells(out, at, shown)
 }
 
 // The last line of an output: how many frames it has.
@@ -108,14 +108,11 @@ fn put_way(out: &mut [u8], at: usize, direction: u32) -> usize
 fn put_stretch(out: &mut [u8; 2048], s: Stretch) -> usize
     ensures { (result ≤ 275) × (take result out.new ≡ stretch_line s) }
 {
-    let gliding = s.gliding;
-    let still = s.still;
-    let columns = s.columns;
     let mut at = lines::put_number(out, 0, b"lines ", s.first);
     at = lines::put_number(out, at, b" to ", s.last);
-    at = put_gliding(out, at, gliding);
-    at = put_part(out, at, b" still ", still);
-    at = put_window(out, at, columns);
+    at = put_gliding(out, at, s.gliding);
+    at = put_part(out, at, b" still ", s.still);
+    at = put_window(out, at, s.columns);
     lines::put(out, at, b"\n")
 }
 
@@ -156,18 +153,16 @@ fn put_window(out: &mut [u8], at: usize, columns: Columns) -> usize
     }
 }
 
-// The first `columns` cells as characters.
-fn put_characters(out: &mut [u8], at: usize, cells: &[u32], columns: usize) -> usize
-    requires { (columns ≤ length cells.now) × (at + columns + 3 ≤ length out.old) }
-    ensures { (result ≡ at + columns + 3) × (take result out.new ≡ take at out.old ++ character_line (take columns cells.now)) }
+// Cells as characters.
+fn put_characters(out: &mut [u8], at: usize, cells: &[u32]) -> usize
+    requires { at + length cells.now + 3 ≤ length out.old }
+    ensures { (result ≡ at + length cells.now + 3) × (take result out.new ≡ take at out.old ++ character_line cells.now) }
 {
     let start = lines::put(out, at, b"|");
-    let mut i = 0;
-    while i < columns {
-        out[start + i] = character_of(cells[i]);
-        i += 1;
+    for (i, &cell) in cells.iter().enumerate() {
+        out[start + i] = character_of(cell);
     }
-    lines::put(out, start + i, b"|\n")
+    lines::put(out, start + cells.len(), b"|\n")
 }
 
 // A cell as a character.
@@ -176,11 +171,10 @@ fn character_of(cell: u32) -> u8
 {
     let code = (cell % 128) as u8;
     if cell / 8388608 % 2 == 1 {
-        return 32;
-    }
-    if (32 <= code) & (code <= 126) {
+        b' '
+    } else if (0x20 <= code) & (code <= 0x7e) {
         code
     } else {
-        63
+        b'?'
     }
 }

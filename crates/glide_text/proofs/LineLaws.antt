@@ -1,8 +1,7 @@
 -- What a line of the screen shows, as going through the rows finds it: the row that stands still, and the row that glides.
-use Rattle.std.proofs.Common.{◌≡◌, ℕ, ◌+◌, ◌-◌, ◌<◌, false, List, ◌++◌, length, nat_abs, refl, ap, ◌∙◌, arith, le-ltb, lt-ltb}
-use Rattle.panel.specs.declared.Placed.{Placed}
-use Rattle.panel.specs.declared.Placed.TheVariants.{Nowhere, At}
+use Rattle.std.proofs.Common.{◌≡◌, ℕ, ◌+◌, ◌-◌, ◌<◌, false, List, ◌++◌, length, nat_abs, refl, ap, ◌∙◌, arith, le-ltb, lt-ltb, Option, Some, None}
 use Rattle.panel.specs.Line.{place_at, row_at, place, is_down, background, still}
+use Rattle.panel.specs.declared.Place.{Place}
 use Rattle.picture.specs.Picture.{PictureRow, Picture, height_above, heights_of, still_row, gliding_row}
 use Rattle.finding.specs.Finding.{Located, located, beyond, locate}
 use Rattle.finding.proofs.PlaceLaws.{placed_of, row_of, place_found, row_in, row-found, first-heights, and_then, locate-then, counted, locate-counted, locate-below}
@@ -23,13 +22,13 @@ module _ (p : Picture) where
   abbrev all : List PictureRow
   all = p.rows ++ p.below
 
-  row-still : (x : Placed) → still_row p x ≡ row_in p.rows x
-  row-still Nowhere = refl
-  row-still (At s) = refl
+  row-still : (x : Option Place) → still_row p x ≡ row_in p.rows x
+  row-still None = refl
+  row-still (Some s) = refl
 
-  row-glides : (x : Placed) → gliding_row p (row_at x) ≡ row_in all x
-  row-glides Nowhere = refl
-  row-glides (At s) = refl
+  row-glides : (x : Option Place) → gliding_row p (row_at x) ≡ row_in all x
+  row-glides None = refl
+  row-glides (Some s) = refl
 
   -- what stands still on line y
   pub still-found : (y : ℕ) → still (heights_of all) (length p.rows) y ≡ placed_of (locate 0 p.rows y)

@@ -1,12 +1,11 @@
 -- What follows a frame, and how a frame ends, by the answers of the calls.
-use Rattle.std.proofs.Common.{◌≡◌, ℕ, zero, suc, ◌-◌, Bool, true, false, ◌||◌, eqb, List, refl, ap, ◌∙◌, arith, ne_eqb}
+use Rattle.std.proofs.Common.{◌≡◌, ℕ, zero, suc, ◌-◌, Bool, true, false, ◌||◌, eqb, List, refl, ap, ◌∙◌, arith, ne_eqb, Ok, Err}
 use mathlib.Core.Option.{none, some}
 use Rattle.memory.specs.Word.{when◌then◌else◌}
 use Rattle.memory.specs.declared.Refusal.{Refusal}
 use Rattle.settings.specs.declared.Settings.{Settings}
 use Rattle.state.specs.declared.State.{State}
 use Rattle.frame.specs.declared.Progress.{Progress}
-use Rattle.frame.specs.declared.BeginAnswer.TheVariants as Begin
 use Rattle.frame.specs.Step.{begin}
 use Rattle.frame.specs.Frame.{Frame, frame}
 use Rattle.finding.specs.Finding.{rest_of}
@@ -45,11 +44,11 @@ module _ (next : Glide → List ℕ) (g : Glide) (m : List ℕ) where
   abbrev σ : Settings
   σ = g.script.settings
 
-  pub not-begun : {r : Refusal} → begin g.latch σ m ≡ Begin.Refused r → refusal_line r ≡ frame_end next g m
+  pub not-begun : {r : Refusal} → begin g.latch σ m ≡ Err r → refusal_line r ≡ frame_end next g m
   unfolding frame_end frame
   not-begun e = rw e
 
-  module _ {p : Progress} (e : begin g.latch σ m ≡ Begin.Begun p) where
+  module _ {p : Progress} (e : begin g.latch σ m ≡ Ok p) where
     refusal_is : (frame g.latch σ m).refusal ≡ (rest_of σ m p.state).refusal
     unfolding frame
     refusal_is = rw e (ap (λ (f : Frame). f.refusal) (rest-words σ m p.state p.words 0))

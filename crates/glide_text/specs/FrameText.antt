@@ -1,12 +1,10 @@
 -- The text of a shifted frame: its line, and for each stretch of lines its line, its shown columns as characters and their cells.
-use Rattle.std.specs.Prelude.{ℕ, zero, suc, ◌+◌, ◌-◌, min, List, [], ◌++◌, length, nat_lt}
-use Rattle.std.proofs.Math.Option.{Option, none, some}
+use Rattle.std.specs.Prelude.{ℕ, zero, suc, ◌+◌, ◌-◌, min, List, [], ◌++◌, length, nat_lt, Option, Some, None}
+use Rattle.std.proofs.Math.Option.{Option as Maybe, none, some}
 use Rattle.memory.specs.Word.{when◌then◌else◌}
 use Rattle.settings.specs.declared.Settings.{Settings}
 use Rattle.settings.specs.Timing.{lines_for_rows}
 use Rattle.panel.specs.declared.Place.{Place}
-use Rattle.panel.specs.declared.Placed.{Placed}
-use Rattle.panel.specs.declared.Placed.TheVariants.{Nowhere, At}
 use Rattle.panel.specs.declared.Background.{Background}
 use Rattle.panel.specs.declared.Line.{Line}
 use Rattle.panel.specs.Line.{place_at}
@@ -27,7 +25,7 @@ abbrev pub row_part : (rows : ℕ) → Place → PictureRow → Gliding
 row_part rows p r =
     when nat_lt p.index rows then Row (part_of p r) else Below (part_of (place_at (p.index - rows) p.line p.left) r)
 
-abbrev pub gliding_of : (rows : ℕ) → Background → Option PictureRow → Gliding
+abbrev pub gliding_of : (rows : ℕ) → Background → Maybe PictureRow → Gliding
 gliding_of rows b none = Nothing
 gliding_of rows Background.Nothing (some r) = Nothing
 gliding_of rows (Background.Row p) (some r) = row_part rows p r
@@ -38,13 +36,13 @@ abbrev pub stretch_of : (y count : ℕ) → Gliding → Place → PictureRow →
 stretch_of y count g p s = record { first = y; last = y + count - 1; gliding = g; still = part_of p s; columns = s.columns }
 
 -- "A stretch is cut at the screen's last line", and then the next one: `next` gives the text from its first line on
-abbrev pub from_line : (ℕ → List ℕ) → Settings → Picture → ℕ → Line → Placed → Option PictureRow → List ℕ
-from_line next σ p y l (At s) (some r) =
+abbrev pub from_line : (ℕ → List ℕ) → Settings → Picture → ℕ → Line → Option Place → Maybe PictureRow → List ℕ
+from_line next σ p y l (Some s) (some r) =
     let count = min l.lines (lines_for_rows σ - y) in
     let g = gliding_of (length p.rows) l.background (gliding_row p l.background) in
     stretch_text σ (stretch_of y count g s r) (shown_at p l) ++ next (y + count)
-from_line next σ p y l (At s) none = []
-from_line next σ p y l Nowhere r = []
+from_line next σ p y l (Some s) none = []
+from_line next σ p y l None r = []
 
 -- the stretches from screen line y on where a row stands still; there are no more than lines: n counts them down
 unfoldable pub stretches : ℕ → Settings → Picture → ℕ → List ℕ

@@ -1,14 +1,12 @@
 -- The glide program: "Records as in ./draw; registers 04h, 05h are the soft top. Each draw is one frame, printed as it is met". What a
 -- byte of a record does is the script's; after a draw the script goes on.
-use Rattle.std.specs.Prelude.{ℕ, zero, suc, Bool, ◌&&◌, List, [], ◌∷◌, ◌++◌, replicate, pos, ◌==◌, nat_lt, unsigned_abs}
+use Rattle.std.specs.Prelude.{ℕ, zero, suc, Bool, ◌&&◌, List, [], ◌∷◌, ◌++◌, replicate, pos, ◌==◌, nat_lt, unsigned_abs, Result, Ok, Err}
 use Rattle.std.proofs.Math.Option.{Option, none, some}
 use Rattle.memory.specs.Word.{when◌then◌else◌}
 use Rattle.memory.specs.declared.Refusal.{Refusal}
 use Rattle.settings.specs.declared.PointerWords.{PointerWords}
 use Rattle.scroll.specs.declared.Scroll.{Scroll}
 use Rattle.scroll.specs.declared.FrameShift.{FrameShift}
-use Rattle.scroll.specs.declared.ShiftAnswer.{ShiftAnswer}
-use Rattle.scroll.specs.declared.ShiftAnswer.TheVariants.{Accepted, Refused}
 use Rattle.scroll.specs.Scroll.{shift_call}
 use Rattle.beside.specs.Beside.{with_top}
 use Rattle.frame.specs.Frame.{Frame, frame, handed_on}
@@ -58,9 +56,9 @@ frame_end next g m =
     by_refusal next g (handed_on g.latch f) f.refusal
 
 -- "a shift call's in place of the frame"
-abbrev pub by_shift : (Glide → List ℕ) → Glide → List ℕ → ShiftAnswer → List ℕ
-by_shift next g m (Accepted s) = frame_text (shifted g s) m ++ frame_end next (shifted g s) m
-by_shift next g m (Refused r) = refusal_line r
+abbrev pub by_shift : (Glide → List ℕ) → Glide → List ℕ → Result FrameShift Refusal → List ℕ
+by_shift next g m (Ok s) = frame_text (shifted g s) m ++ frame_end next (shifted g s) m
+by_shift next g m (Err r) = refusal_line r
 
 -- a draw, and what follows
 unfoldable pub draw_text : (Glide → List ℕ) → Glide → List ℕ → List ℕ

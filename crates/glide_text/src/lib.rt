@@ -6,8 +6,6 @@ ghost use Rattle.script.specs.Feeding.{counted};
 ghost use Rattle.glide_text.specs.GlideText.{first_glide, shifted, after_frame, at_rest, soft_after, with_script, past_draw};
 ghost use Rattle.glide_text.specs.ToCome.{Resumes, Reads, Stops, Finishes};
 
-use finding::FrameEnd;
-use frame::BeginAnswer;
 use memory::Refusal;
 use script::{Script, Step};
 use scroll::{FrameShift, Scroll};
@@ -78,8 +76,7 @@ pub fn begin() -> Glide
 pub fn read_byte(glide: Glide, byte: u8, mem: &mut [u16; 16384]) -> Text
     ensures { Reads glide byte mem.old mem.new result }
 {
-    let script = glide.script;
-    match script::read_byte(script, byte, mem) {
+    match script::read_byte(glide.script, byte, mem) {
         Step::More(next) => Text::Reading(with_script(glide, next)),
         Step::Draw(_) => Text::Drawing {
             glide: past_draw(glide),
@@ -96,8 +93,7 @@ pub fn end_input(glide: Glide) -> Text
     if (glide.script.kind == 0) & (0 < glide.frames) {
         resume(glide, Follow::Frames(256))
     } else {
-        let script = glide.script;
-        Text::NoScript(script::at_end(script))
+        Text::NoScript(script::at_end(glide.script))
     }
 }
 
@@ -108,8 +104,7 @@ fn resume(glide: Glide, follow: Follow) -> Text
     match follow {
         Follow::Input => Text::Reading(glide),
         Follow::Frames(left) => {
-            let scroll = glide.scroll;
-            if (left == 0) | is_at_rest(scroll) {
+            if (left == 0) | is_at_rest(glide.scroll) {
                 Text::EndFrames(glide.frames)
             } else {
                 Text::Drawing {
@@ -134,12 +129,12 @@ fn finish_frame(glide: Glide, follow: Follow, mem: &[u16]) -> Text
 {
     let settings = glide.script.settings;
     match frame::begin(settings, mem, glide.latch) {
-        BeginAnswer::Refused(refusal) => Text::Refused(refusal),
-        BeginAnswer::Begun(progress) => {
+        Err(refusal) => Text::Refused(refusal),
+        Ok(progress) => {
             let state = progress.state;
             match finding::end_of(settings, mem, state) {
-                FrameEnd::Refused(refusal) => Text::Refused(refusal),
-                FrameEnd::Ended(last) => resume(after_frame(glide, last.latch), follow),
+                Err(refusal) => Text::Refused(refusal),
+                Ok(last) => resume(after_frame(glide, last.latch), follow),
             }
         }
     }
@@ -149,40 +144,36 @@ fn finish_frame(glide: Glide, follow: Follow, mem: &[u16]) -> Text
 fn after_frame(glide: Glide, latch: u16) -> Glide
     ensures { result ≡ after_frame glide latch }
 {
-    let mut g = glide;
-    g.latch = latch;
-    g.frames = count(glide.frames);
-    g
+    Glide {
+        latch,
+        frames: count(glide.frames),
+        ..glide
+    }
 }
 
 // After a shift call: its scroll, and its hard top.
 fn shifted(glide: Glide, s: FrameShift) -> Glide
     ensures { result ≡ shifted glide s }
 {
-    let top = s.top;
-    let scroll = s.scroll;
-    let settings = glide.script.settings;
-    let mut script = glide.script;
-    script.settings = beside::with_top(settings, top);
-    let mut g = glide;
-    g.script = script;
-    g.scroll = scroll;
-    g
+    let settings = beside::with_top(glide.script.settings, s.top);
+    Glide {
+        script: Script {
+            settings,
+            ..glide.script
+        },
+        scroll: s.scroll,
+        ..glide
+    }
 }
 
 // A script one byte further, with what it says of the soft top.
 fn with_script(glide: Glide, script: Script) -> Glide
     ensures { result ≡ with_script glide script }
 {
-    let before = glide.soft;
-    let soft = soft_after(script, before);
-    let scroll = glide.scroll;
     Glide {
         script,
-        soft,
-        scroll,
-        latch: glide.latch,
-        frames: glide.frames,
+        soft: soft_after(script, glide.soft),
+        ..glide
     }
 }
 
@@ -209,29 +200,20 @@ fn chosen(test: bool, a: u16, b: u16) -> u16
 fn past_draw(glide: Glide) -> Glide
     ensures { result ≡ past_draw glide }
 {
-    let settings = glide.script.settings;
     let script = Script {
-        settings,
         read: count(glide.script.read),
         start: glide.script.read,
         kind: 0,
         left: 0,
         body: 0,
+        ..glide.script
     };
-    let soft = glide.soft;
-    let scroll = glide.scroll;
-    Glide {
-        script,
-        soft,
-        scroll,
-        latch: glide.latch,
-        frames: glide.frames,
-    }
+    Glide { script, ..glide }
 }
 
 // One more, counted with 64 bits.
 fn count(n: u64) -> u64
     ensures { result ≡ counted n }
 {
-    std::num::wrapping_add_u64(n, 1)
+    n.wrapping_add(1)
 }

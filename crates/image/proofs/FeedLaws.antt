@@ -18,6 +18,18 @@ pub feed-next : (bytes : List ℕ) (i : ℕ) (s : Script) (rs m : List ℕ) → 
 unfolding feeding
 feed-next bytes i s rs m h = rw (add-one, drop-cons bytes i 0)
 
+-- a script that has come to its draw or refusal stays there, and has no register to note
+pub onward-ended : (o : Step) (rs m : List ℕ) (next : Script → (registers memory : List ℕ) → Fed) → ((s : Script) → o ≡ More s → ⊥)
+    → onward (fed o rs m) next ≡ fed o rs m
+onward-ended (More s) rs m next h = absurd (h s refl)
+onward-ended (Draw σ) rs m next h = refl
+onward-ended (Refused n) rs m next h = refl
+
+pub none-noted : (o : Step) (rs : List ℕ) → ((s : Script) → o ≡ More s → ⊥) → noted o rs ≡ rs
+none-noted (More s) rs h = absurd (h s refl)
+none-noted (Draw σ) rs h = refl
+none-noted (Refused n) rs h = refl
+
 -- the parts in which a script comes do not matter
 module _ (next f g : Script → (registers memory : List ℕ) → Fed) (e : (s : Script) (rs m : List ℕ) → f s rs m ≡ onward (g s rs m) next) where
   onward-part : (o : Step) (rs m : List ℕ) → onward (fed o rs m) f ≡ onward (onward (fed o rs m) g) next

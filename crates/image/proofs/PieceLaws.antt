@@ -1,5 +1,6 @@
 -- The pieces of an image's script, each with what comes after it.
-use mathlib.Core.Path.{◌≡◌, sym, ap, ◌∙◌}
+use Rattle.std.proofs.Common.{Some}
+use mathlib.Core.Path.{◌≡◌, sym}
 use mathlib.Core.List.{List, [], ◌++◌, append_assoc, append-nil}
 use Prim.Native.Nat.{ℕ, ◌+◌, ◌<◌, ◌≤◌}
 use native.Mathlib.Omega.{arith}
@@ -8,10 +9,10 @@ use lib.ListN.{length, get_or, take, drop, drop_of_length-le}
 use lib.Seq.{drop-cons}
 use borrow.Author.Tests.{eq-eqb, ne_eqb}
 use Rattle.lines.specs.Lines.{Line}
+use Rattle.lines.proofs.PieceLaws.{with-piece, last-piece}
 use Rattle.image.specs.declared.Text.TheVariants.{Head, Words, Ended}
-use Rattle.image.specs.declared.Piece.TheVariants.{Written}
 use Rattle.image.specs.Written.{head_text, word_record, value_text, values_text, draw_record, written}
-use Rattle.image.specs.ToCome.{to_come, calls, Writes, Next}
+use Rattle.image.specs.ToCome.{to_come, Next}
 
 -- ---- values ----
 module _ (record_of : ℕ → ℕ → List ℕ) where
@@ -38,28 +39,17 @@ module _ (record_of : ℕ → ℕ → List ℕ) where
   no-values vs i h = rw (drop_of_length-le vs h)
 
 -- ---- pieces ----
--- a piece, with a text that begins with it
-pub with-piece : {piece : List ℕ} {n : ℕ} {buffer : List ℕ} (all after : List ℕ) (c left : ℕ) → Line piece n buffer → piece ++ after ≡ all → left < c
-    → Writes n buffer all after c left
-with-piece all after c left l e f = record { within = l.0; sized = l.1; bytes = ap (λ (x : List ℕ). x ++ after) l.2 ∙ e; fewer = f }
-
--- the last piece
-pub last-piece : {piece : List ℕ} {n : ℕ} {buffer : List ℕ} (all : List ℕ) (c : ℕ) → Line piece n buffer → piece ≡ all → 0 < c → Writes n buffer all [] c 0
-last-piece {piece} all c l e f = with-piece all [] c 0 l (append-nil piece ∙ e) f
-
 module _ (rs m : List ℕ) where
-  pub head-piece : (s n : ℕ) (buffer : List ℕ) → Line (head_text s rs) n buffer → Next rs m (Head s) (Written n (Words 0)) buffer
+  pub head-piece : (s n : ℕ) (buffer : List ℕ) → Line (head_text s rs) n buffer → Next rs m (Head s) (Some (record { count = n; after = Words 0 })) buffer
   unfolding to_come written
-  head-piece s n buffer l =
-      with-piece (to_come rs m (Head s)) (to_come rs m (Words 0)) (calls (Head s)) (calls (Words 0)) l
-      (sym (append_assoc (head_text s rs) (values_text word_record 0 m) draw_record)) (omega arith)
+  head-piece s n buffer l = with-piece l (sym (append_assoc (head_text s rs) (values_text word_record 0 m) draw_record)) (omega arith)
 
-  pub draw-piece : (from n : ℕ) (buffer : List ℕ) → length m ≤ from → Line draw_record n buffer → Next rs m (Words from) (Written n Ended) buffer
+  pub draw-piece : (from n : ℕ) (buffer : List ℕ) → length m ≤ from → Line draw_record n buffer → Next rs m (Words from) (Some (record { count = n; after = Ended })) buffer
   unfolding to_come
-  draw-piece from n buffer h l = last-piece (to_come rs m (Words from)) (calls (Words from)) l (rw (no-values word_record m from h)) (omega arith)
+  draw-piece from n buffer h l = last-piece l (rw (no-values word_record m from h)) (omega arith)
 
   pub words-piece : (from end n : ℕ) (buffer : List ℕ) → n ≤ length buffer → n ≡ length (take n buffer) → from < end → end ≤ 16384
       → take n buffer ++ values_text word_record end (drop end m) ≡ values_text word_record from (drop from m)
-      → Next rs m (Words from) (Written n (Words end)) buffer
+      → Next rs m (Words from) (Some (record { count = n; after = Words end })) buffer
   unfolding to_come
   words-piece from end n buffer w s h g e = record { within = w; sized = s; bytes = rw (← append_assoc, e); fewer = omega arith }

@@ -1,8 +1,9 @@
 -- What of the script of an image is still to come, and what a call for its next piece gives. No rules of their own.
-use Rattle.std.specs.Prelude.{ℕ, ◌+◌, ◌-◌, ◌<◌, ◌≤◌, ◌≡◌, List, [], ◌++◌, length, take, drop}
+use Rattle.std.specs.Prelude.{ℕ, ◌+◌, ◌-◌, List, [], ◌++◌, drop, Option}
+use Rattle.lines.specs.declared.Piece.{Piece}
+use Rattle.lines.specs.Pieces as Pieces
 use Rattle.image.specs.declared.Text.{Text}
 use Rattle.image.specs.declared.Text.TheVariants.{Head, Words, Ended}
-use Rattle.image.specs.declared.Piece.{Piece}
 use Rattle.image.specs.Written.{word_record, values_text, draw_record, written}
 
 unfoldable pub to_come : (registers memory : List ℕ) → Text → List ℕ
@@ -16,19 +17,10 @@ calls (Head s) = 16386
 calls (Words i) = 16384 - i + 1
 calls Ended = 0
 
--- n bytes that were written at the start of a buffer, then the text `after`, are the text `all`, and of the calls that it takes fewer are left.
--- What the buffer's bytes past these are is left free.
-pub record Writes (n : ℕ) (buffer all after : List ℕ) (calls left : ℕ) : Type 0 where
-  pub within : n ≤ length buffer
-  pub sized : n ≡ length (take n buffer)
-  pub bytes : take n buffer ++ after ≡ all
-  pub fewer : left < calls
-
 -- a call gives the next piece, or says that the script is at its end
-abbrev pub Next : (registers memory : List ℕ) → Text → Piece → (buffer : List ℕ) → Type 0
-Next rs m t (Piece.Written n u) buffer = Writes n buffer (to_come rs m t) (to_come rs m u) (calls t) (calls u)
-Next rs m t Piece.AtEnd buffer = to_come rs m t ≡ []
+abbrev pub Next : (registers memory : List ℕ) → Text → Option (Piece Text) → (buffer : List ℕ) → Type 0
+Next rs m = Pieces.Next (to_come rs m) calls
 
 -- past the registers, whatever they are
-abbrev pub NextWords : (memory : List ℕ) → ℕ → Piece → (buffer : List ℕ) → Type 0
+abbrev pub NextWords : (memory : List ℕ) → ℕ → Option (Piece Text) → (buffer : List ℕ) → Type 0
 NextWords m from p buffer = (rs : List ℕ) → Next rs m (Words from) p buffer

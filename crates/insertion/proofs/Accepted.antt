@@ -1,5 +1,6 @@
 -- What an accepted row tells: its checks have passed, it comes to its fields' next ones with its block's link, and without a redefinition it has
 -- the format of its state.
+use Rattle.std.proofs.Common.{None}
 use mathlib.Core.Path.{◌≡◌, refl, sym, ap, ◌∙◌}
 use mathlib.Core.Bool.{Bool, true, false}
 use mathlib.Core.List.{List}
@@ -30,7 +31,6 @@ use Rattle.plan.specs.Plan.{Plan, from_blocks, from_state, plan}
 use Rattle.row.specs.Row.{code_settings, Row, drawn_by, from_plan, row}
 use Rattle.insertion.specs.Followed.{redefinition_of}
 use Rattle.plan.specs.Plan as Rules
-use Rattle.windows.specs.declared.WindowInHand.TheVariants.{Absent}
 use Rattle.insertion.proofs.Near.{at}
 use Rattle.insertion.proofs.Rows.{plain_fields, widths_of, Passes}
 
@@ -132,7 +132,7 @@ module _ (σ : Settings) (m : List ℕ) where
     plan-format {i} {p} e = by (came-by 0 m (background_row σ (plain_fields number left c fill t a x)) (λ g. done (plan_of g)) e)
       where
         plan_of : BackgroundRow → Plan
-        plan_of g = Rules.planned (plain_fields number left c fill t a x) g (record { overlay = no_overlay; window = Absent })
+        plan_of g = Rules.planned (plain_fields number left c fill t a x) g (record { overlay = no_overlay; window = None })
 
         by : Came 0 m (background_row σ (plain_fields number left c fill t a x)) (λ g. done (plan_of g)) (given i p) → p.format ≡ t
         by (came {a = g} e last) = let same : plan_of g ≡ p = cc in ap (λ (p : Plan). p.format) (sym same) ∙ ground-format e

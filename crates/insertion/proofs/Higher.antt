@@ -1,4 +1,5 @@
 -- The rows above the place, drawn alike in both frames, and the place: there the new block's row comes in between.
+use Rattle.std.proofs.Common.{None, Ok}
 use mathlib.Core.Path.{◌≡◌, refl, ap, ap₂, sym, subst, ◌∙◌}
 use mathlib.Core.Bool.{Bool, true, false}
 use mathlib.Core.List.{List, [], ◌∷◌}
@@ -13,7 +14,6 @@ use Rattle.memory.specs.declared.Pointer.{Pointer}
 use Rattle.memory.specs.Reading.{given, run, asked}
 use Rattle.memory.proofs.Agree.{same_outcome}
 use Rattle.settings.specs.declared.Settings.{Settings}
-use Rattle.windows.specs.declared.WindowInHand.TheVariants.{Absent}
 use Rattle.state.specs.declared.Fields.{Fields}
 use Rattle.state.specs.declared.State.{State}
 use Rattle.state.specs.State.{state_of}
@@ -22,7 +22,6 @@ use Rattle.codes.specs.Codes.{Drawing}
 use Rattle.row.specs.Row.{Row, row, row_call}
 use Rattle.frame.specs.Frame.{FrameRow, blank}
 use Rattle.joining.specs.declared.Effect.{Effect}
-use Rattle.joining.specs.declared.Applied.TheVariants.{Latch}
 use Rattle.joining.specs.Join.{empty, apply}
 use Rattle.joining.proofs.Joining.{apply-empty}
 use Rattle.effect.specs.Effect.{effect_call}
@@ -57,7 +56,7 @@ module _ (latch : ℕ) (σ : Settings) (link : ℕ) (old new : List ℕ) (h : In
         → Moved p q.answer.next os r.answer.next ns → Moved (suc p) o (q ∷ os) n (r ∷ ns)
 
   pub record Upper (size holder : ℕ) (o n : State) (os ns : List FrameRow) : Type 0 where
-    pub bare : o.fields.window ≡ Absent
+    pub bare : o.fields.window ≡ None
     pub plain_old : no_redefinition σ old (called_on o os) ≡ true
     pub plain_new : no_redefinition σ new (called_on n ns) ≡ true
     pub once_old : times_followed link holder (called_on o os) ≤ 1
@@ -96,7 +95,7 @@ module _ (latch : ℕ) (σ : Settings) (link : ℕ) (old new : List ℕ) (h : In
 
     keeps : (effect_call σ new (inserted o).fields).effect ≡ empty → (next_of r).latch ≡ o.latch
     keeps k =
-        let a : ◌≡◌ {A = _} (Latch (next_of r).latch) (Latch o.latch) =
+        let a : ◌≡◌ {A = _} (Ok (next_of r).latch) (Ok o.latch) =
         sym (latch-next σ new (inserted o) e) ∙ ap (λ (x : Effect). apply x o.latch) k ∙ apply-empty o.latch in
         cc
 
@@ -170,7 +169,7 @@ module _ (latch : ℕ) (σ : Settings) (link : ℕ) (old new : List ℕ) (h : In
       led =
           ap₂ state_of (ap (λ (d : Drawing). d.pen.latch) (sym relinked.drawing))
           (ap (with_next (pointer_in σ link new)) relinked.before
-          ∙ ap (λ (b : ℕ). next_fields s.fields q.format (pointer_in σ b new) Absent) (sym at) ∙ sym relinked.after)
+          ∙ ap (λ (b : ℕ). next_fields s.fields q.format (pointer_in σ b new) None) (sym at) ∙ sym relinked.after)
 
       held-cells : (drawn_row σ s j r).cells ≡ (drawn_row σ s i q).cells
       held-cells = no-mark latch σ link old new h s.fields r.drawing.cells ∙ ap (λ (d : Drawing). d.cells) relinked.drawing

@@ -1,5 +1,6 @@
 -- Request §13, the proof: the two frames as chains of rows from their starts. They are alike down to the place, there the new block's row comes in,
 -- and below each row is the former one higher; the latches are those of the joined effects.
+use Rattle.std.proofs.Common.{None, Ok}
 use mathlib.Core.Path.{◌≡◌, refl, ap, sym, subst, ◌∙◌}
 use mathlib.Core.Bool.{Bool, true, false}
 use mathlib.Core.List.{List}
@@ -14,12 +15,10 @@ use Rattle.memory.specs.declared.Pointer.{Pointer}
 use Rattle.memory.specs.Reading.{given, run, asked}
 use Rattle.memory.proofs.Agree.{same_outcome}
 use Rattle.settings.specs.declared.Settings.{Settings}
-use Rattle.windows.specs.declared.WindowInHand.TheVariants.{Absent}
 use Rattle.state.specs.declared.State.{State}
 use Rattle.state.specs.State.{state_of}
 use Rattle.start.specs.Start.{start_from}
 use Rattle.frame.specs.Frame.{FrameRow, frame}
-use Rattle.joining.specs.declared.Applied.TheVariants.{Latch}
 use Rattle.joining.specs.Join.{apply}
 use Rattle.insertion.specs.Followed.{called_on, states, main_of, pointer_in, block_words, first_followed, all_apart, rows_else, read_else}
 use Rattle.insertion.specs.Insertion.{changed, Insertion, joined_effects, drawn_from, Inserted, with_next, InsertsALine}
@@ -35,7 +34,7 @@ use Rattle.insertion.proofs.Places.{Stated, stated, has-state, above-cells, plac
 
 -- a start's state: no window, the start latch, the first row block
 start-state : {latch : ℕ} {p q : Pointer} {s t : State} → StartAlike latch p q s t
-    → (s.fields.window ≡ Absent) × (t.fields.window ≡ Absent) × (t.fields.left ≡ s.fields.left) × (t.fields.format ≡ s.fields.format)
+    → (s.fields.window ≡ None) × (t.fields.window ≡ None) × (t.fields.left ≡ s.fields.left) × (t.fields.format ≡ s.fields.format)
 start-state (starts left c fill t) = (refl, refl, refl, refl)
 
 start-next : {latch : ℕ} {p q : Pointer} {s t : State} → StartAlike latch p q s t
@@ -137,7 +136,7 @@ module _ (latch : ℕ) (σ : Settings) (link : ℕ) (old new : List ℕ) (h : In
 
     -- the latch of a row of the new frame, from the effects of those above it
     latch-at : (j : ℕ) {u : State} → get_elem? (called_on n news) j ≡ some u
-        → apply (joined_effects σ new (take j (called_on n news))) latch ≡ Latch u.latch
+        → apply (joined_effects σ new (take j (called_on n news))) latch ≡ Ok u.latch
     latch-at j {u} q =
         ap (apply (joined_effects σ new (take j (called_on n news)))) (sym (start-next alone-new).0) ∙ chain-latch σ new k j u q
 

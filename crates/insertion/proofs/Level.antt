@@ -1,4 +1,5 @@
 -- The lines of the rows: without redefinitions they follow from the lines left and the format of the first state.
+use Rattle.std.proofs.Common.{None}
 use mathlib.Core.Path.{◌≡◌, refl, ap, ap₂, sym, ◌∙◌}
 use mathlib.Core.Bool.{true}
 use mathlib.Core.List.{List, ◌∷◌}
@@ -6,7 +7,6 @@ use Prim.Native.Nat.{ℕ, ◌-◌}
 use Rattle.memory.specs.Reading.{given, run}
 use Rattle.settings.specs.declared.Settings.{Settings}
 use Rattle.blocks.specs.declared.RowFormat.{RowFormat}
-use Rattle.windows.specs.declared.WindowInHand.TheVariants.{Absent}
 use Rattle.state.specs.declared.Fields.{Fields}
 use Rattle.state.specs.declared.State.{State}
 use Rattle.plan.specs.Plan.{lines_taken, next_fields}
@@ -19,8 +19,8 @@ use Rattle.insertion.proofs.Told.{Told, told-row}
 
 module _ (σ : Settings) (old new : List ℕ) where
   pub record Level (o n : State) (os ns : List FrameRow) : Type 0 where
-    pub bare_old : o.fields.window ≡ Absent
-    pub bare_new : n.fields.window ≡ Absent
+    pub bare_old : o.fields.window ≡ None
+    pub bare_new : n.fields.window ≡ None
     pub left : n.fields.left ≡ o.fields.left
     pub format : n.fields.format ≡ o.fields.format
     pub plain_old : no_redefinition σ old (called_on o os) ≡ true

@@ -1,5 +1,6 @@
 -- A row without a window: what it draws depends on its latch, its block and the fill, and not on its number, its lines left, the words of its
 -- block's link or where the pointer to the block begins.
+use Rattle.std.proofs.Common.{None}
 use mathlib.Core.Path.{◌≡◌, refl}
 use mathlib.Core.Bool.{Bool, true, false}
 use Prim.Native.Nat.{ℕ}
@@ -13,7 +14,6 @@ use Rattle.blocks.specs.declared.Cursor.{Cursor}
 use Rattle.blocks.specs.declared.FillMode.{FillMode}
 use Rattle.blocks.specs.declared.RowFormat.{RowFormat}
 use Rattle.blocks.specs.RowBlock.{RowBlock, redefined}
-use Rattle.windows.specs.declared.WindowInHand.TheVariants.{Absent}
 use Rattle.windows.specs.Window.{due_window}
 use Rattle.state.specs.declared.Fields.{Fields}
 use Rattle.state.specs.State.{state_of, in_range}
@@ -29,7 +29,7 @@ use Rattle.insertion.proofs.Blocks.{BlockAlike, blocks, block-opens, block_null}
 
 -- fields without a window, the next row block at the address a
 abbrev pub plain_fields : (number left : ℕ) → Cursor → FillMode → RowFormat → (a from : ℕ) → Fields
-plain_fields number left c fill t a from = record { row = number; left = left; cursor = c; fill = fill; format = t; next = at a from; window = Absent }
+plain_fields number left c fill t a from = record { row = number; left = left; cursor = c; fill = fill; format = t; next = at a from; window = None }
 
 -- the same but for the number, the lines left and where the pointer begins
 pub data Like : Fields → Fields → Type 0 where
@@ -37,7 +37,7 @@ pub data Like : Fields → Fields → Type 0 where
 
 -- what such a row comes to, of the format t, whose block has this link
 abbrev pub row_of : Fields → RowFormat → Pointer → Drawing → Row
-row_of f t link d = record { lines = lines_taken t f.left; format = t; next = next_fields f t link Absent; drawing = d }
+row_of f t link d = record { lines = lines_taken t f.left; format = t; next = next_fields f t link None; drawing = d }
 
 pub data RowAlike (f g : Fields) (p q : Pointer) : Row → Row → Type 0 where
   rows : (t : RowFormat) (d : Drawing) → RowAlike f g p q (row_of f t p d) (row_of g t q d)
@@ -53,8 +53,8 @@ data GroundAlike (p q : Pointer) : BackgroundRow → BackgroundRow → Type 0 wh
 
 data PlanAlike (f g : Fields) (p q : Pointer) : Plan → Plan → Type 0 where
   plans : {b d : RowBlock} (t : RowFormat) → BlockAlike p q b d
-      → PlanAlike f g p q (planned f (record { block = b; format = t }) (record { overlay = none; window = Absent }))
-      (planned g (record { block = d; format = t }) (record { overlay = none; window = Absent }))
+      → PlanAlike f g p q (planned f (record { block = b; format = t }) (record { overlay = none; window = None }))
+      (planned g (record { block = d; format = t }) (record { overlay = none; window = None }))
 
 module _ (σ : Settings) where
   abbrev format_of : RowFormat → RowBlock → Reading BackgroundRow
@@ -64,7 +64,7 @@ module _ (σ : Settings) where
   widths_of p g = check_of 9 p (all_fit g.block.segments) >>= λ _. check_of 10 p (leb (total σ.hidden g.block.segments) 132) >>= λ _. done g
 
   abbrev plan_of : Fields → BackgroundRow → Reading Plan
-  plan_of f g = check 12 (edges_fit σ.hidden none g.block.segments) >>= λ _. done (planned f g (record { overlay = none; window = Absent }))
+  plan_of f g = check 12 (edges_fit σ.hidden none g.block.segments) >>= λ _. done (planned f g (record { overlay = none; window = None }))
 
 module _ (σ : Settings) {p q : Pointer} where
   formats : (t : RowFormat) (b d : RowBlock) → BlockAlike p q b d → Near (GroundAlike p q) (format_of σ t b) (format_of σ t d)

@@ -1,4 +1,5 @@
 -- An accepted row without a window and a redefinition, in equations: what its next fields and lines are, and what two such rows share.
+use Rattle.std.proofs.Common.{None}
 use mathlib.Core.Path.{◌≡◌, refl, ap, sym, subst, ◌∙◌}
 use mathlib.Core.Bool.{Bool, true, false}
 use mathlib.Core.List.{List, [], ◌∷◌}
@@ -13,7 +14,6 @@ use Rattle.memory.proofs.Agree.{All, none, also, SameWord}
 use Rattle.memory.proofs.ReadBounds.{both}
 use Rattle.settings.specs.declared.Settings.{Settings}
 use Rattle.blocks.specs.RowBlock.{row_block_at}
-use Rattle.windows.specs.declared.WindowInHand.TheVariants.{Absent}
 use Rattle.state.specs.declared.Fields.{Fields}
 use Rattle.state.specs.declared.State.{State}
 use Rattle.state.specs.State.{state_of}
@@ -51,18 +51,18 @@ all_same m (x ∷ xs) = also refl (all_same m xs)
 
 -- fields without a window, the same but for number, lines left and where the pointer begins
 pub record Close (f g : Fields) : Type 0 where
-  pub bare : f.window ≡ Absent
-  pub bare' : g.window ≡ Absent
+  pub bare : f.window ≡ None
+  pub bare' : g.window ≡ None
   pub cursor : g.cursor ≡ f.cursor
   pub fill : g.fill ≡ f.fill
   pub format : g.format ≡ f.format
   pub address : g.next.address ≡ f.next.address
 
-pub close-self : {f : Fields} → f.window ≡ Absent → Close f f
+pub close-self : {f : Fields} → f.window ≡ None → Close f f
 close-self e = record { bare = e; bare' = e; cursor = refl; fill = refl; format = refl; address = refl }
 
 module _ {f : Fields} where
-  left-path : f.window ≡ Absent → plain_fields f.row f.left f.cursor f.fill f.format f.next.address f.next.from ≡ f
+  left-path : f.window ≡ None → plain_fields f.row f.left f.cursor f.fill f.format f.next.address f.next.from ≡ f
   left-path e = λ i. record { row = f.row; left = f.left; cursor = f.cursor; fill = f.fill; format = f.format; next = f.next; window = sym e i }
 
   right-path : {g : Fields} → Close f g → plain_fields g.row g.left f.cursor f.fill f.format f.next.address g.next.from ≡ g
@@ -96,10 +96,10 @@ module _ (σ : Settings) (m : List ℕ) where
   plain_rows s r rs e = both (null (redefinition_of (run m (row_block_at σ.linear s.fields.next)))) (no_redefinition σ m (called_on r.answer.next rs)) e
 
   pub record Told (f : Fields) (r : Row) : Type 0 where
-    pub next : r.next ≡ next_fields f f.format (link_read f) Absent
+    pub next : r.next ≡ next_fields f f.format (link_read f) None
     pub lines : r.lines ≡ lines_taken f.format f.left
 
-  module _ (l : ℕ) (f : Fields) {n : ℕ} {r : Row} (bare : f.window ≡ Absent) (plain : Unredefined f) (e : run m (row σ (state_of l f)) ≡ given n r) where
+  module _ (l : ℕ) (f : Fields) {n : ℕ} {r : Row} (bare : f.window ≡ None) (plain : Unredefined f) (e : run m (row σ (state_of l f)) ≡ given n r) where
     kept-format : r.format ≡ f.format
     kept-format =
         subst (λ (f : Fields). Unredefined f → run m (row σ (state_of l f)) ≡ given n r → r.format ≡ f.format) (left-path bare)
@@ -107,11 +107,11 @@ module _ (σ : Settings) (m : List ℕ) where
 
     told : {s : Row} {p q : Pointer} → RowAlike f f p q r s → p ≡ link_read f → Told f r
     told {p} i k = let t = told-by i in record {
-      next = t.0 ∙ ap (λ (u : _). next_fields f u p Absent) kept-format ∙ ap (λ (p : Pointer). next_fields f f.format p Absent) k;
+      next = t.0 ∙ ap (λ (u : _). next_fields f u p None) kept-format ∙ ap (λ (p : Pointer). next_fields f f.format p None) k;
       lines = t.1 ∙ ap (λ (u : _). lines_taken u f.left) kept-format;
     }
       where
-        told-by : {p q : Pointer} {r s : Row} → RowAlike f f p q r s → (r.next ≡ next_fields f r.format p Absent) × (r.lines ≡ lines_taken r.format f.left)
+        told-by : {p q : Pointer} {r s : Row} → RowAlike f f p q r s → (r.next ≡ next_fields f r.format p None) × (r.lines ≡ lines_taken r.format f.left)
         told-by (rows t d) = (refl, refl)
 
     pub row_told : Told f r
@@ -128,7 +128,7 @@ module _ (σ : Settings) (m : List ℕ) where
         by-null true k = told (both-given (run-near m m refl 0 (row-null σ l same passes passes k) (all_same m _)) e e) (rw k)
 
 -- a row of a chain, and that the rows after it redefine nothing either
-pub told-row : (σ : Settings) (m : List ℕ) (s : State) {n : ℕ} {r : Row} (rs : List FrameRow) → s.fields.window ≡ Absent
+pub told-row : (σ : Settings) (m : List ℕ) (s : State) {n : ℕ} {r : Row} (rs : List FrameRow) → s.fields.window ≡ None
     → no_redefinition σ m (called_on s (drawn_row σ s n r ∷ rs)) ≡ true → run m (row σ s) ≡ given n r
     → Told σ m s.fields r × (no_redefinition σ m (called_on (next_of r) rs) ≡ true)
 told-row σ m s {n} {r} rs bare plain e =
@@ -144,8 +144,8 @@ pub record Shares (r s : Row) : Type 0 where
 -- the block's link alone differs
 pub record Relinked (σ : Settings) (old new : List ℕ) (f : Fields) (r s : Row) : Type 0 where
   pub drawing : s.drawing ≡ r.drawing
-  pub before : r.next ≡ next_fields f r.format (pointer_in σ f.next.address old) Absent
-  pub after : s.next ≡ next_fields f r.format (pointer_in σ f.next.address new) Absent
+  pub before : r.next ≡ next_fields f r.format (pointer_in σ f.next.address old) None
+  pub after : s.next ≡ next_fields f r.format (pointer_in σ f.next.address new) None
 
 shares : {f g : Fields} {r s : Row} → RowsAlike f g r s → Shares r s
 unfolding next_fields
@@ -163,7 +163,7 @@ module _ (σ : Settings) (old new : List ℕ) (len : length old ≡ length new) 
       one-given (share (run-near old new len 0 (row_near σ l (close-like h) i (row-passes σ new l g e)) a)) e
 
   -- a row of one state, where all words but those of its block's link are the same
-  pub row-relinked : (f : Fields) → f.window ≡ Absent → eqb f.next.address 0 ≡ false
+  pub row-relinked : (f : Fields) → f.window ≡ None → eqb f.next.address 0 ≡ false
       → All (SameWord old new) (drop 2 (asked new (row σ (state_of l f)))) → {n k : ℕ} {r s : Row}
       → run old (row σ (state_of l f)) ≡ given n r → run new (row σ (state_of l f)) ≡ given k s → Relinked σ old new f r s
   row-relinked f bare a h d e =

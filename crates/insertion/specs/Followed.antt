@@ -1,29 +1,29 @@
 -- The terms of request §13: the states that a frame's rows are called on, where the changed link is followed, and which words are read for
 -- anything else.
-use Rattle.std.specs.Prelude.{ℕ, suc, ◌+◌, ◌/◌, Bool, true, ◌&&◌, not, List, [], ◌∷◌, ◌++◌, drop, eqb}
+use Rattle.std.specs.Prelude.{ℕ, suc, ◌+◌, ◌/◌, Bool, true, ◌&&◌, not, List, [], ◌∷◌, ◌++◌, drop, eqb, Result, Ok, Err}
 use Rattle.memory.specs.Word.{when◌then◌else◌, at}
 use Rattle.memory.specs.declared.Pointer.{Pointer}
 use Rattle.memory.specs.Reading.{Outcome, given, refused, run, asked}
 use Rattle.memory.specs.Address.{nothing, pointer, null, next_word}
+use Rattle.memory.specs.declared.Refusal.{Refusal}
 use Rattle.settings.specs.declared.Settings.{Settings}
 use Rattle.blocks.specs.RowBlock.{RowBlock, row_block_at}
 use Rattle.state.specs.declared.State.{State}
 use Rattle.start.specs.Top.{registered}
 use Rattle.start.specs.Start.{start_from}
 use Rattle.row.specs.Row.{row}
-use Rattle.frame.specs.declared.BeginAnswer.{BeginAnswer}
-use Rattle.frame.specs.declared.BeginAnswer.TheVariants as Begin
 use Rattle.frame.specs.Step.{begin}
 use Rattle.frame.specs.Frame.{FrameRow, frame}
+use Rattle.frame.specs.declared.Progress.{Progress}
 
 -- the states that rows are called on, first to last: the first one, and each row's next
 unfoldable pub called_on : State → List FrameRow → List State
 called_on s [] = []
 called_on s (r ∷ rs) = s ∷ called_on r.answer.next rs
 
-abbrev pub states_from : BeginAnswer → List FrameRow → List State
-states_from (Begin.Begun p) rs = called_on p.state rs
-states_from (Begin.Refused r) rs = []
+abbrev pub states_from : Result Progress Refusal → List FrameRow → List State
+states_from (Ok p) rs = called_on p.state rs
+states_from (Err r) rs = []
 
 -- .. those of a frame
 unfoldable pub states : ℕ → Settings → List ℕ → List State

@@ -1,23 +1,21 @@
 -- Document 02, "Inserting a line, for certain": what is asked of the two frames, and what then moves. The words in quotes are the request's.
 -- It asks also for "the fill flag clear, soft scroll off": the claim holds without these two.
-use Rattle.std.specs.Prelude.{ℕ, ◌+◌, ◌<◌, ◌≤◌, ◌≡◌, true, false, List, [], ◌∷◌, map, length, get_or, take, eqb}
+use Rattle.std.specs.Prelude.{ℕ, ◌+◌, ◌<◌, ◌≤◌, ◌≡◌, true, false, List, [], ◌∷◌, map, length, get_or, take, eqb, Result, Ok, Err}
 use Rattle.std.proofs.Math.Option.{Option, none, some}
 use Rattle.std.proofs.Math.ListN.{get_elem?}
 use Rattle.memory.specs.declared.Pointer.{Pointer}
 use Rattle.memory.specs.Address.{null, next_word}
+use Rattle.memory.specs.declared.Refusal.{Refusal}
 use Rattle.settings.specs.declared.Settings.{Settings}
 use Rattle.state.specs.declared.Fields.{Fields}
 use Rattle.state.specs.declared.State.{State}
 use Rattle.state.specs.State.{state_of}
 use Rattle.start.specs.Top.{registered}
-use Rattle.row.specs.declared.RowAnswer.{RowAnswer}
-use Rattle.row.specs.declared.RowAnswer.TheVariants as Row
 use Rattle.row.specs.Row.{Called, row_call}
 use Rattle.frame.specs.Frame.{FrameRow, blank, frame}
 use Rattle.joining.specs.declared.Effect.{Effect}
-use Rattle.joining.specs.declared.Applied.{Applied}
-use Rattle.joining.specs.declared.Applied.TheVariants.{Latch, Refused}
 use Rattle.joining.specs.Join.{empty, join, apply}
+use Rattle.row.specs.declared.DrawnRow.{DrawnRow}
 use Rattle.effect.specs.Effect.{effect_call}
 use Rattle.insertion.specs.Followed.{states, main_of, word_at, pointer_in, times_followed, first_followed, block_words, apart, all_apart, read_else, no_redefinition}
 
@@ -68,17 +66,17 @@ joined_effects σ m [] = empty
 joined_effects σ m (s ∷ ss) = join (effect_call σ m s.fields).effect (joined_effects σ m ss)
 
 -- the cells of a row call that is accepted
-abbrev pub cells_given : RowAnswer → List ℕ → Option (List ℕ)
-cells_given (Row.Accepted d) cells = some cells
-cells_given (Row.Refused r) cells = none
+abbrev pub cells_given : Result DrawnRow Refusal → List ℕ → Option (List ℕ)
+cells_given (Ok d) cells = some cells
+cells_given (Err r) cells = none
 
 abbrev pub cells_called : Called → Option (List ℕ)
 cells_called c = cells_given c.answer c.buffer
 
 -- .. on some fields, "drawn from the latch that the joined effects give"
-abbrev pub drawn_from : Settings → List ℕ → Fields → Applied → Option (List ℕ)
-drawn_from σ m f (Latch l) = cells_called (row_call σ m (state_of l f) blank)
-drawn_from σ m f (Refused r) = none
+abbrev pub drawn_from : Settings → List ℕ → Fields → Result ℕ Refusal → Option (List ℕ)
+drawn_from σ m f (Ok l) = cells_called (row_call σ m (state_of l f) blank)
+drawn_from σ m f (Err r) = none
 
 abbrev pub cells_of : List FrameRow → List (List ℕ)
 cells_of rs = map (λ (r : FrameRow). r.cells) rs
@@ -99,7 +97,7 @@ pub record Inserted (latch : ℕ) (σ : Settings) (link : ℕ) (old new : List �
   -- "the new row stands in its place": it is the new block's, from the latch that the rows above leave
   pub placed : let place = place_of latch σ link old in
       (s : State) (r : FrameRow) → get_elem? (states latch σ old) place ≡ some s → get_elem? (frame latch σ new).rows place ≡ some r
-      → some r.cells ≡ drawn_from σ new (with_next (pointer_in σ link new) s.fields) (Latch s.latch)
+      → some r.cells ≡ drawn_from σ new (with_next (pointer_in σ link new) s.fields) (Ok s.latch)
   -- "each row below has the cells of the former row one higher, drawn from the latch that the joined effects give"
   pub below : let place = place_of latch σ link old in
       (j : ℕ) (s : State) (r : FrameRow) → place ≤ j → get_elem? (states latch σ old) j ≡ some s → get_elem? (frame latch σ new).rows (j + 1) ≡ some r

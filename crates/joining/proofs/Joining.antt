@@ -1,4 +1,6 @@
 -- Joining is associative, and so the same in any grouping; the empty effect is neutral on both sides, and a joined effect applies one after the other.
+use Rattle.std.proofs.Common.{Result, Ok, Err}
+use Rattle.memory.specs.declared.Refusal.{Refusal}
 use mathlib.Core.Path.{◌≡◌, refl, ap, sym, ◌∙◌}
 use mathlib.Core.Bool.{Bool, true, false}
 use mathlib.Core.List.{List, [], ◌∷◌, ◌++◌}
@@ -7,8 +9,6 @@ use Rattle.codes.specs.Attribute.{ignores}
 use Rattle.joining.specs.declared.Part.{Part}
 use Rattle.joining.specs.declared.Part.TheVariants.{Keep, Set, Refuse}
 use Rattle.joining.specs.declared.Effect.{Effect}
-use Rattle.joining.specs.declared.Applied.{Applied}
-use Rattle.joining.specs.declared.Applied.TheVariants.{Latch, Refused}
 use Rattle.joining.specs.Grouping.{Grouping, nothing, one, both, joined, effects, AnyGrouping}
 use Rattle.joining.specs.Join.{empty, part_for, set_then, join_part, join, apply_part, apply}
 
@@ -73,9 +73,9 @@ pub any-grouping : AnyGrouping
 any-grouping g h e = grouped g ∙ ap join_all e ∙ sym (grouped h)
 
 -- an effect after what came before
-abbrev pub then_apply : Applied → Effect → Applied
-then_apply (Latch l) e = apply e l
-then_apply (Refused r) e = Refused r
+abbrev pub then_apply : Result ℕ Refusal → Effect → Result ℕ Refusal
+then_apply (Ok l) e = apply e l
+then_apply (Err r) e = Err r
 
 apply-set : (w l : ℕ) (p : Part) → apply_part (set_then w p) l ≡ apply_part p w
 apply-set w l Keep = refl
@@ -90,5 +90,5 @@ apply-part (Set w) l e = apply-set w l (part_for (ignores w) e)
 pub apply-join : (d e : Effect) (l : ℕ) → apply (join d e) l ≡ then_apply (apply d l) e
 apply-join d e l = rw (part_join (ignores l) d e) (apply-part (part_for (ignores l) d) l e)
 
-pub apply-empty : (l : ℕ) → apply empty l ≡ Latch l
+pub apply-empty : (l : ℕ) → apply empty l ≡ Ok l
 apply-empty l = rw (part-empty (ignores l))

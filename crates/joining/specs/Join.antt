@@ -1,12 +1,11 @@
 -- Document 01: "A row effect has two parts, for an incoming latch with ignore clear and with it set: keep the latch, set it to a
 -- word, or refuse." How effects are joined and applied.
-use Rattle.std.specs.Prelude.{ℕ, Bool, true, false}
+use Rattle.std.specs.Prelude.{ℕ, Bool, true, false, Result, Ok, Err}
+use Rattle.memory.specs.declared.Refusal.{Refusal}
 use Rattle.codes.specs.Attribute.{ignores}
 use Rattle.joining.specs.declared.Part.{Part}
 use Rattle.joining.specs.declared.Part.TheVariants.{Keep, Set, Refuse}
 use Rattle.joining.specs.declared.Effect.{Effect}
-use Rattle.joining.specs.declared.Applied.{Applied}
-use Rattle.joining.specs.declared.Applied.TheVariants.{Latch, Refused}
 
 -- "The empty effect keeps in both."
 abbrev pub empty : Effect
@@ -34,11 +33,11 @@ abbrev pub join : Effect → Effect → Effect
 join d e = record { clear = join_part d.clear false e; set = join_part d.set true e }
 
 -- what a part makes of a latch
-abbrev pub apply_part : Part → ℕ → Applied
-apply_part Keep latch = Latch latch
-apply_part (Set w) latch = Latch w
-apply_part (Refuse r) latch = Refused r
+abbrev pub apply_part : Part → ℕ → Result ℕ Refusal
+apply_part Keep latch = Ok latch
+apply_part (Set w) latch = Ok w
+apply_part (Refuse r) latch = Err r
 
 -- "Bit 13 of a latch chooses the part applied to it."
-abbrev pub apply : Effect → ℕ → Applied
+abbrev pub apply : Effect → ℕ → Result ℕ Refusal
 apply e latch = apply_part (part_for (ignores latch) e) latch

@@ -20,13 +20,6 @@ pub struct Effect {
     pub set: Part,
 }
 
-// What an effect makes of a latch.
-#[derive(Clone, Copy)]
-pub enum Applied {
-    Latch(u16),
-    Refused(Refusal),
-}
-
 impl Effect {
     // The empty effect: it keeps in both parts.
     pub const EMPTY: Effect = Effect {
@@ -45,21 +38,20 @@ impl Effect {
     pub fn join(self, next: Effect) -> Effect
         ensures { result ≡ join self next }
     {
-        let p = self.clear;
-        let q = self.set;
-        let clear = join_part(p, false, next);
-        let set = join_part(q, true, next);
-        Effect { clear, set }
+        Effect {
+            clear: join_part(self.clear, false, next),
+            set: join_part(self.set, true, next),
+        }
     }
 
     // What the effect makes of a latch.
-    pub fn apply(self, latch: u16) -> Applied
+    pub fn apply(self, latch: u16) -> Result<u16, Refusal>
         ensures { result ≡ apply self latch }
     {
         match part_for(memory::bit_13(latch), self) {
-            Part::Keep => Applied::Latch(latch),
-            Part::Set(w) => Applied::Latch(w),
-            Part::Refuse(r) => Applied::Refused(r),
+            Part::Keep => Ok(latch),
+            Part::Set(w) => Ok(w),
+            Part::Refuse(r) => Err(r),
         }
     }
 }
@@ -76,7 +68,7 @@ fn join_part(p: Part, ignore: bool, next: Effect) -> Part
     ensures { result ≡ join_part p ignore next }
 {
     match p {
-        Part::Refuse(first) => Part::Refuse(first),
+        Part::Refuse(_) => p,
         Part::Keep => part_for(ignore, next),
         Part::Set(w) => {
             let ignores = memory::bit_13(w);
@@ -91,7 +83,6 @@ fn set_then(w: u16, p: Part) -> Part
 {
     match p {
         Part::Keep => Part::Set(w),
-        Part::Set(v) => Part::Set(v),
-        Part::Refuse(r) => Part::Refuse(r),
+        later => later,
     }
 }

@@ -27,7 +27,7 @@ pub fn row_latch(
     mem: &[u16],
     settings: CodeSettings,
     fill: FillMode,
-    overlay: OverlayHead,
+    overlay: Option<OverlayHead>,
     back: &[u16; 75],
     count: SegmentCount,
     window: &[u16; 75],
@@ -40,17 +40,12 @@ pub fn row_latch(
     }
     let none = LatchEffect::Kept;
     match overlay {
-        OverlayHead::NoOverlay => side_latch(mem, settings, Side::Whole, back, count, none),
-        OverlayHead::Over {
-            number: _,
-            first,
-            end,
-            count: n,
-        } => {
-            let side = Side::Before(first);
+        None => side_latch(mem, settings, Side::Whole, back, count, none),
+        Some(head) => {
+            let side = Side::Before(head.first);
             let before = side_latch(mem, settings, side, back, count, none);
-            let within = side_latch(mem, settings, Side::Whole, window, n, before);
-            let side = Side::After(first, end);
+            let within = side_latch(mem, settings, Side::Whole, window, head.count, before);
+            let side = Side::After(head.first, head.end);
             side_latch(mem, settings, side, back, count, within)
         }
     }
@@ -70,14 +65,12 @@ fn side_latch(
     let n = count.number as usize;
     let mut made = before;
     let mut at = 0;
-    let mut i = 0;
-    while i < n {
+    for i in 0..n {
         let g = blocks::segment_at(settings.linear, count, segments, i);
         let w = layout::width(settings.hidden, g);
         let chosen = layout::on_side(side, at, w);
         made = join(made, chosen_latch(mem, settings, chosen, g));
         at += w;
-        i += 1;
     }
     made
 }

@@ -44,11 +44,9 @@ fn count_invoking(mem: &[u16], flag: u16, at: usize, n: usize) -> usize
 {
     let half = n / 2;
     let mut sum: u16 = 0;
-    let mut i = 0;
-    while i < half {
+    for i in 0..half {
         let w = mem[at + i];
         sum += takes(flag, memory::high_byte(w)) + takes(flag, memory::low_byte(w));
-        i += 1;
     }
     if n % 2 == 1 {
         sum as usize + takes(flag, memory::high_byte(mem[at + half])) as usize
@@ -69,10 +67,8 @@ fn last_latched(mem: &[u16], at: usize, count: usize) -> LatchEffect
     requires { at + count ≤ length mem.now }
     ensures { result ≡ last_latched mem.now at count }
 {
-    let mut left = count;
-    while 0 < left {
-        left -= 1;
-        let w = mem[at + left];
+    for i in (0..count).rev() {
+        let w = mem[at + i];
         if memory::bit_15(w) {
             return LatchEffect::Latched(w);
         }

@@ -1,4 +1,5 @@
 -- What the checks on a row's segments and the window on a row come to: a law for each way through the definitions.
+use Rattle.std.proofs.Common.{Some}
 use mathlib.Core.Path.{◌≡◌, ◌∙◌}
 use mathlib.Core.Bool.{Bool, true, false, not}
 use mathlib.Core.List.{List}
@@ -12,7 +13,6 @@ use Rattle.memory.proofs.Laws.{bind-given, bind-refused, check-of-passed, check-
 use Rattle.settings.specs.declared.Settings.{Settings}
 use Rattle.blocks.specs.declared.Segment.{Segment}
 use Rattle.windows.specs.declared.Window.{Window}
-use Rattle.windows.specs.declared.WindowInHand.TheVariants.{Present}
 use Rattle.blocks.specs.RowBlock.{RowBlock, window_row_at}
 use Rattle.layout.specs.declared.Measure.{Measure}
 use Rattle.layout.specs.Layout.{total, all_fit, over}
@@ -47,6 +47,6 @@ module _ (m : List ℕ) (σ : Settings) (w : Window) where
 
   pub window-checks : {n : ℕ} {b : RowBlock} → run m (window_row_at σ.linear w.rows) ≡ given n b
       → run m (window_row σ w) ≡ run_from n m (judged σ.hidden b.segments w.rows 11 nobody (w.block.right + 1 - w.block.left)
-      (record { overlay = over w.block.number w.block.left (w.block.right + 1) b.segments; window = Present (with_rows b.link w) }))
+      (record { overlay = over w.block.number w.block.left (w.block.right + 1) b.segments; window = Some (with_rows b.link w) }))
   unfolding window_row
   window-checks e = bind-given 0 m (window_row_at σ.linear w.rows) _ e

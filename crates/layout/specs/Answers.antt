@@ -1,13 +1,12 @@
 -- What the functions of this crate give, as what the rules give: no rules of their own.
-use Rattle.std.specs.Prelude.{ℕ, Bool, List}
+use Rattle.std.specs.Prelude.{ℕ, Bool, List, Option, Some, None, Result, Ok, Err}
+use Rattle.memory.specs.declared.Fault.{Fault}
 use Rattle.memory.specs.Reading.{Outcome, given, refused}
 use Rattle.blocks.specs.declared.Segment.{Segment}
 use Rattle.blocks.specs.RowBlock.{segments_of}
 use Rattle.layout.specs.declared.Measure.{Measure}
 use Rattle.layout.specs.declared.OverlayHead.{OverlayHead}
-use Rattle.layout.specs.declared.OverlayHead.TheVariants.{NoOverlay, Over}
 use Rattle.layout.specs.declared.overlay.OverlayRead.{OverlayRead}
-use Rattle.layout.specs.declared.overlay.OverlayRead.TheVariants as On
 use Rattle.layout.specs.Layout.{total, all_fit, Overlay, none, over}
 use Rattle.layout.specs.Overlay.{Overlaid}
 
@@ -16,12 +15,12 @@ abbrev pub measured : Bool → List Segment → Measure
 measured hidden gs = record { fit = all_fit gs; width = total hidden gs }
 
 -- the window on a row, with the words of its segments
-abbrev pub overlay_of : Bool → OverlayHead → List ℕ → Overlay
-overlay_of linear NoOverlay ws = none
-overlay_of linear (Over number first end count) ws = over number first end (segments_of linear count ws)
+abbrev pub overlay_of : Bool → Option OverlayHead → List ℕ → Overlay
+overlay_of linear None ws = none
+overlay_of linear (Some o) ws = over o.number o.first o.end (segments_of linear o.count ws)
 
 -- the answer of `overlay_row`, with the words of the window's segments, as an outcome. What these words are past the segments counted,
 -- with no window on the row, and after a refusal, is left free.
-abbrev pub overlay_read : Bool → OverlayRead → List ℕ → Outcome Overlaid
-overlay_read linear (On.Read o window n) ws = given n (record { overlay = overlay_of linear o ws; window = window })
-overlay_read linear (On.Refused x) ws = refused x
+abbrev pub overlay_read : Bool → Result OverlayRead Fault → List ℕ → Outcome Overlaid
+overlay_read linear (Ok r) ws = given r.words (record { overlay = overlay_of linear r.overlay ws; window = r.window })
+overlay_read linear (Err x) ws = refused x

@@ -18,16 +18,13 @@ pub enum Side {
     After(usize, usize),
 }
 
-// The window on a row but for its segments: none, or its number, first column, the one after its last, and the count of segments.
+// A window on a row but for its segments: its number, first column, the one after its last, and the count of segments.
 #[derive(Clone, Copy)]
-pub enum OverlayHead {
-    NoOverlay,
-    Over {
-        number: u8,
-        first: usize,
-        end: usize,
-        count: SegmentCount,
-    },
+pub struct OverlayHead {
+    pub number: u8,
+    pub first: usize,
+    pub end: usize,
+    pub count: SegmentCount,
 }
 
 // Whether a row's segments all pass check 9, and the sum of their widths.
@@ -89,12 +86,10 @@ pub fn measure_segments(
     let n = count.number as usize;
     let mut fit = true;
     let mut sum = 0;
-    let mut i = 0;
-    while i < n {
+    for i in 0..n {
         let g = blocks::segment_at(linear, count, words, i);
-        fit = fit & fits(g);
+        fit &= fits(g);
         sum += width(hidden, g);
-        i += 1;
     }
     Measure { fit, width: sum }
 }
@@ -111,13 +106,11 @@ pub fn is_boundary(
 {
     let n = count.number as usize;
     let mut at = 0;
-    let mut i = 0;
-    while i < n {
+    for i in 0..n {
         if at == place {
             return true;
         }
         at += width(hidden, blocks::segment_at(linear, count, words, i));
-        i += 1;
     }
     at <= place
 }

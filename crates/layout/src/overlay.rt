@@ -7,20 +7,17 @@ ghost use Rattle.layout.specs.Overlay.{with_rows, window_row, overlaid};
 ghost use Rattle.layout.specs.Answers.{overlay_of, overlay_read};
 
 use crate::OverlayHead;
-use blocks::{BlockRead, SegmentCount};
+use blocks::SegmentCount;
 use memory::{Fault, Pointer};
 use settings::Settings;
-use windows::{Window, WindowBlock, WindowInHand};
+use windows::{Window, WindowBlock};
 
 // The window on a row, and the window in hand after it.
 #[derive(Clone, Copy)]
-pub enum OverlayRead {
-    Read {
-        overlay: OverlayHead,
-        window: WindowInHand,
-        words: u32,
-    },
-    Refused(Fault),
+pub struct OverlayRead {
+    pub overlay: Option<OverlayHead>,
+    pub window: Option<Window>,
+    pub words: u32,
 }
 
 // The window in hand on its rows; no window on others.
@@ -28,27 +25,27 @@ pub fn overlay_row(
     mem: &[u16],
     settings: Settings,
     row: u32,
-    in_hand: WindowInHand,
+    in_hand: Option<Window>,
     over: &mut [u16; 75],
-) -> OverlayRead
+) -> Result<OverlayRead, Fault>
     ensures { overlay_read settings.linear result over.new ≡ run mem.now (overlaid settings row in_hand) }
 {
     match in_hand {
-        WindowInHand::Absent => OverlayRead::Read {
-            overlay: OverlayHead::NoOverlay,
-            window: WindowInHand::Absent,
+        None => Ok(OverlayRead {
+            overlay: None,
+            window: None,
             words: 0,
-        },
-        WindowInHand::Present(w) => {
+        }),
+        Some(w) => {
             let block = w.block;
             if on_rows(block, row) {
                 window_row(mem, settings, w, over)
             } else {
-                OverlayRead::Read {
-                    overlay: OverlayHead::NoOverlay,
-                    window: WindowInHand::Present(w),
+                Ok(OverlayRead {
+                    overlay: None,
+                    window: Some(w),
                     words: 0,
-                }
+                })
             }
         }
     }
@@ -58,22 +55,17 @@ pub fn overlay_row(
 pub fn edges_fit(
     linear: bool,
     hidden: bool,
-    overlay: OverlayHead,
+    overlay: Option<OverlayHead>,
     back: &[u16; 75],
     count: SegmentCount,
 ) -> bool
     ensures { (ws : List ℕ) → result ≡ edges_fit hidden (overlay_of linear overlay ws) (segments_of linear count back.now) }
 {
     match overlay {
-        OverlayHead::NoOverlay => true,
-        OverlayHead::Over {
-            number: _,
-            first,
-            end,
-            count: _,
-        } => {
-            crate::is_boundary(linear, hidden, back, count, first)
-                & crate::is_boundary(linear, hidden, back, count, end)
+        None => true,
+        Some(o) => {
+            crate::is_boundary(linear, hidden, back, count, o.first)
+                & crate::is_boundary(linear, hidden, back, count, o.end)
         }
     }
 }
@@ -86,37 +78,38 @@ fn on_rows(b: WindowBlock, row: u32) -> bool
 }
 
 // The window's row block; then checks 9 and 11 on its segments.
-fn window_row(mem: &[u16], settings: Settings, w: Window, over: &mut [u16; 75]) -> OverlayRead
+fn window_row(
+    mem: &[u16],
+    settings: Settings,
+    w: Window,
+    over: &mut [u16; 75],
+) -> Result<OverlayRead, Fault>
     ensures { overlay_read settings.linear result over.new ≡ run mem.now (window_row settings w) }
 {
     let rows = w.rows;
-    match blocks::window_row_block(mem, settings.linear, rows, over) {
-        BlockRead::Read(b) => {
-            let count = b.count;
-            let m = crate::measure_segments(settings.linear, settings.hidden, over, count);
-            if !m.fit {
-                return OverlayRead::Refused(memory::blame(9, rows));
-            }
-            let block = w.block;
-            if columns(block) < m.width {
-                return OverlayRead::Refused(memory::fault_of(11));
-            }
-            let overlay = OverlayHead::Over {
-                number: w.block.number,
-                first: w.block.left as usize,
-                end: w.block.right as usize + 1,
-                count,
-            };
-            let link = b.link;
-            let window = WindowInHand::Present(with_rows(link, w));
-            OverlayRead::Read {
-                overlay,
-                window,
-                words: b.words,
-            }
-        }
-        BlockRead::Refused(fault) => OverlayRead::Refused(fault),
+    let b = blocks::window_row_block(mem, settings.linear, rows, over)?;
+    let count = b.count;
+    let m = crate::measure_segments(settings.linear, settings.hidden, over, count);
+    if !m.fit {
+        return Err(memory::blame(9, rows));
     }
+    let block = w.block;
+    if columns(block) < m.width {
+        return Err(memory::fault_of(11));
+    }
+    let overlay = Some(OverlayHead {
+        number: w.block.number,
+        first: w.block.left as usize,
+        end: w.block.right as usize + 1,
+        count,
+    });
+    let link = b.link;
+    let window = Some(with_rows(link, w));
+    Ok(OverlayRead {
+        overlay,
+        window,
+        words: b.words,
+    })
 }
 
 // How many columns the window has: none where they are out of order.

@@ -1,41 +1,26 @@
 -- Rows of 1 to 32 lines: height by height, and what follows of a line in them, that its numbers fit 32 bits.
+use Rattle.std.proofs.Common.{Option, Some, None}
 use mathlib.Core.Path.{◌≡◌, refl}
 use mathlib.Core.Bool.{true, ◌&&◌}
 use mathlib.Core.List.{List, [], ◌∷◌}
 use Prim.Native.Nat.{ℕ, zero, suc, ◌+◌, ◌-◌, ◌≤◌, ◌<◌}
 use native.Mathlib.Omega.{arith}
-use native.Mathlib.Numerals.{add-one}
 use lib.IntN.{ℤ, nat_abs}
-use lib.ListN.{length, take, drop, get_or, length-take}
-use lib.Seq.{drop-cons}
+use lib.ListN.{length, take, length-take}
 use lib.Dec.{leb, ltb}
 use borrow.Author.Tests.{leb-true, ltb-true}
 use Rattle.memory.proofs.ReadBounds.{both, if-cases}
 use Rattle.panel.specs.declared.Place.{Place}
-use Rattle.panel.specs.declared.Placed.{Placed}
-use Rattle.panel.specs.declared.Placed.TheVariants.{Nowhere, At}
 use Rattle.panel.specs.declared.Background.{Background}
 use Rattle.panel.specs.declared.Background.TheVariants.{Nothing, Row, Above}
 use Rattle.panel.specs.Line.{later, place, row_at, above_at, is_down, background, still, background_lines, line_at, line}
 use Rattle.line_numbers.specs.LineNumbers.{is_height, are_heights, line_asked}
 use Rattle.line_numbers.specs.Narrow.{NarrowPlaced, NarrowBackground, NarrowLine}
 
-pub heights-at : (hs : List ℕ) (i : ℕ) → i < length hs → are_heights (drop i hs) ≡ (is_height (get_or hs i 0) && are_heights (drop (i + 1) hs))
-unfolding are_heights
-heights-at hs i there = rw (drop-cons hs i 0 there, add-one i)
-
-pub heights-end : (hs : List ℕ) (i : ℕ) → length hs ≤ i → are_heights (drop i hs) ≡ true
-unfolding are_heights
-heights-end [] zero h = refl
-heights-end [] (suc i) h = refl
-heights-end (x ∷ xs) zero h = absurd (omega arith)
-heights-end (x ∷ xs) (suc i) h = heights-end xs i (omega arith)
-
 height : (h : ℕ) → is_height h ≡ true → (1 ≤ h) × (h ≤ 32)
 height h t = let b = both (leb 1 h) (leb h 32) t in (leb-true 1 h b.0, leb-true h 32 b.1)
 
 are-first : (n : ℕ) (hs : List ℕ) → are_heights hs ≡ true → are_heights (take n hs) ≡ true
-unfolding are_heights
 are-first zero hs t = refl
 are-first (suc n) [] t = refl
 are-first (suc n) (h ∷ hs) t = let b = both (is_height h) (are_heights hs) t in rw b.0 (are-first n hs b.1)
@@ -46,16 +31,16 @@ record Inside (hs : List ℕ) (p : Place) : Type 0 where
   line : p.line < 32
   left : p.left ≤ 32
 
-abbrev InsidePlaced : List ℕ → Placed → Type 0
-InsidePlaced hs Nowhere = Unit
-InsidePlaced hs (At p) = Inside hs p
+abbrev InsidePlaced : List ℕ → Option Place → Type 0
+InsidePlaced hs None = Unit
+InsidePlaced hs (Some p) = Inside hs p
 
-later-inside : (h : ℕ) (hs : List ℕ) (p : Placed) → InsidePlaced hs p → InsidePlaced (h ∷ hs) (later p)
-later-inside h hs Nowhere i = tt
-later-inside h hs (At p) i = record { index = omega arith; line = i.line; left = i.left }
+later-inside : (h : ℕ) (hs : List ℕ) (p : Option Place) → InsidePlaced hs p → InsidePlaced (h ∷ hs) (later p)
+later-inside h hs None i = tt
+later-inside h hs (Some p) i = record { index = omega arith; line = i.line; left = i.left }
 
 inside : (hs : List ℕ) (z : ℕ) → are_heights hs ≡ true → InsidePlaced hs (place hs z)
-unfolding place are_heights
+unfolding place
 inside [] z t = tt
 inside (h ∷ hs) z t =
     let b = both (is_height h) (are_heights hs) t in
@@ -65,13 +50,13 @@ inside (h ∷ hs) z t =
     (λ s. later-inside h hs (place hs (z - h)) (inside hs (z - h) b.1))
 
 module _ (hs : List ℕ) (few : length hs ≤ 4294967295) where
-  placed-narrow : (p : Placed) → InsidePlaced hs p → NarrowPlaced p
-  placed-narrow Nowhere i = tt
-  placed-narrow (At p) i = record { index = omega arith; line = omega arith }
+  placed-narrow : (p : Option Place) → InsidePlaced hs p → NarrowPlaced p
+  placed-narrow None i = tt
+  placed-narrow (Some p) i = record { index = omega arith; line = omega arith }
 
-  row-narrow : (p : Placed) → InsidePlaced hs p → NarrowBackground (row_at p)
-  row-narrow Nowhere i = tt
-  row-narrow (At p) i = record { index = omega arith; line = omega arith }
+  row-narrow : (p : Option Place) → InsidePlaced hs p → NarrowBackground (row_at p)
+  row-narrow None i = tt
+  row-narrow (Some p) i = record { index = omega arith; line = omega arith }
 
 above-narrow : (h d y : ℕ) → h ≤ 32 → y < d → NarrowBackground (above_at h d y)
 unfolding above_at
@@ -100,11 +85,11 @@ module _ (shift : ℤ) (above : ℕ) (heights : List ℕ) (rows y : ℕ) where
         (λ s. row-narrow (take rows heights) fewer (place (take rows heights) (y - d)) (inside (take rows heights) (y - d) (are-first rows heights are))))
         (λ t. row-narrow heights few (place heights (y + d)) (inside heights (y + d) are))
 
-    line-narrow-at : (p : Placed) → InsidePlaced (take rows heights) p → NarrowLine (line_at shift above heights rows y p)
-    line-narrow-at Nowhere i = record { background = tt; still = tt; lines = omega arith }
-    line-narrow-at (At s) i = record {
+    line-narrow-at : (p : Option Place) → InsidePlaced (take rows heights) p → NarrowLine (line_at shift above heights rows y p)
+    line-narrow-at None i = record { background = tt; still = tt; lines = omega arith }
+    line-narrow-at (Some s) i = record {
       background = background-narrow;
-      still = placed-narrow (take rows heights) fewer (At s) i;
+      still = placed-narrow (take rows heights) fewer (Some s) i;
       lines = omega (arith, i.left, most-lines shift above y s.left (background shift above heights rows y));
     }
 

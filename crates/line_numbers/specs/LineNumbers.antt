@@ -1,11 +1,11 @@
 -- A line of the panel as seven numbers: what glides there (0 nothing, 1 a row, 2 the row above), its index and its scan line; what
 -- stands still there (0 nothing, 1 a row), its index and its scan line; how many lines from it on have these two.
-use Rattle.std.specs.Prelude.{ℕ, Bool, true, ◌&&◌, List, [], ◌∷◌, ℤ, nat_abs, length, leb}
-use Rattle.panel.specs.declared.Placed.{Placed}
-use Rattle.panel.specs.declared.Placed.TheVariants.{Nowhere, At}
+use Rattle.std.specs.List.{list_all}
+use Rattle.std.specs.Prelude.{ℕ, Bool, ◌&&◌, List, [], ◌∷◌, ℤ, nat_abs, length, leb, Option, Some, None}
 use Rattle.panel.specs.declared.Background.{Background}
 use Rattle.panel.specs.declared.Background.TheVariants.{Nothing, Row, Above}
 use Rattle.panel.specs.declared.Line.{Line}
+use Rattle.panel.specs.declared.Place.{Place}
 use Rattle.line_numbers.specs.declared.Spot.{Spot}
 
 abbrev pub spot_at : (kind index line : ℕ) → Spot
@@ -16,9 +16,9 @@ background_spot Nothing = spot_at 0 0 0
 background_spot (Row p) = spot_at 1 p.index p.line
 background_spot (Above p) = spot_at 2 p.index p.line
 
-abbrev pub still_spot : Placed → Spot
-still_spot Nowhere = spot_at 0 0 0
-still_spot (At p) = spot_at 1 p.index p.line
+abbrev pub still_spot : Option Place → Spot
+still_spot None = spot_at 0 0 0
+still_spot (Some p) = spot_at 1 p.index p.line
 
 abbrev pub spot_numbers : Spot → List ℕ → List ℕ
 spot_numbers s rest = s.kind ∷ s.index ∷ s.line ∷ rest
@@ -30,9 +30,8 @@ line_numbers l = spot_numbers (background_spot l.background) (spot_numbers (stil
 abbrev pub is_height : ℕ → Bool
 is_height h = leb 1 h && leb h 32
 
-unfoldable pub are_heights : List ℕ → Bool
-are_heights [] = true
-are_heights (h ∷ hs) = is_height h && are_heights hs
+abbrev pub are_heights : List ℕ → Bool
+are_heights hs = list_all is_height hs
 
 -- What a line can be asked of: a shift within 31 lines, a row above of at most 32 lines (0 where there is none), rows as they can be, of
 -- which `rows` are the frame's, and no more than have a number of 32 bits.

@@ -1,8 +1,6 @@
 -- A line whose numbers fit 32 bits.
-use Rattle.std.specs.Prelude.{◌≡◌, List, ℕ, ◌<◌, length}
+use Rattle.std.specs.Prelude.{ℕ, ◌<◌, Option, Some, None}
 use Rattle.panel.specs.declared.Place.{Place}
-use Rattle.panel.specs.declared.Placed.{Placed}
-use Rattle.panel.specs.declared.Placed.TheVariants.{Nowhere, At}
 use Rattle.panel.specs.declared.Background.{Background}
 use Rattle.panel.specs.declared.Background.TheVariants.{Nothing, Row, Above}
 use Rattle.panel.specs.declared.Line.{Line}
@@ -11,9 +9,9 @@ pub record Narrow (p : Place) : Type 0 where
   pub index : p.index < 4294967296
   pub line : p.line < 4294967296
 
-abbrev pub NarrowPlaced : Placed → Type 0
-NarrowPlaced Nowhere = Unit
-NarrowPlaced (At p) = Narrow p
+abbrev pub NarrowPlaced : Option Place → Type 0
+NarrowPlaced None = Unit
+NarrowPlaced (Some p) = Narrow p
 
 abbrev pub NarrowBackground : Background → Type 0
 NarrowBackground Nothing = Unit
@@ -24,8 +22,3 @@ pub record NarrowLine (l : Line) : Type 0 where
   pub background : NarrowBackground l.background
   pub still : NarrowPlaced l.still
   pub lines : l.lines < 4294967296
-
--- such a line, and seven places for it
-pub record ToWrite (l : Line) (into : List ℕ) : Type 0 where
-  pub narrow : NarrowLine l
-  pub places : length into ≡ 7

@@ -2,10 +2,9 @@
 // A line of the panel as seven numbers, and which frames a line can be asked of.
 ghost use Rattle.std.specs.Prelude.{◌≡◌};
 ghost use Rattle.line_numbers.specs.LineNumbers.{is_height, are_heights, line_asked, spot_at, background_spot, still_spot, line_numbers};
-ghost use Rattle.line_numbers.specs.Narrow.{NarrowBackground, NarrowPlaced, ToWrite};
+ghost use Rattle.line_numbers.specs.Narrow.{NarrowBackground, NarrowPlaced, NarrowLine};
 
-use numbers::encode;
-use panel::{Background, Line, Placed};
+use panel::{Background, Line, Place};
 
 // What glides or stands still on a line as three numbers: its kind, its index, its scan line.
 #[derive(Clone, Copy)]
@@ -16,6 +15,7 @@ pub struct Spot {
 }
 
 // Whether a line can be asked of a frame: its shift within 31 lines, rows of 1 to 32 lines, no more rows of the frame than there are.
+#[tactic(auto, unfolding(crate::specs::LineNumbers::line_asked))]
 pub fn is_asked(shift: i32, above: u32, heights: &[u32], rows: usize) -> bool
     ensures { result ≡ line_asked shift above heights.now rows }
 {
@@ -27,32 +27,24 @@ pub fn is_asked(shift: i32, above: u32, heights: &[u32], rows: usize) -> bool
 fn are_heights(heights: &[u32]) -> bool
     ensures { result ≡ are_heights heights.now }
 {
-    let mut i = 0;
-    while i < heights.len() {
-        if !is_height(heights[i]) {
-            return false;
-        }
-        i += 1;
-    }
-    true
+    heights.iter().all(|h| is_height(*h))
 }
 
 fn is_height(h: u32) -> bool
     ensures { result ≡ is_height h }
 {
-    (1 <= h) & (h <= 32)
+    matches!(h, 1..=32)
 }
 
 // A line whose numbers fit 32 bits, into seven places.
-pub fn write_line(l: Line, into: &mut [u32])
-    requires { ToWrite l into.old }
+#[tactic(auto, unfolding(crate::specs::LineNumbers::line_numbers))]
+pub fn write_line(l: Line, into: &mut [u32; 7])
+    requires { NarrowLine l }
     ensures { into.new ≡ line_numbers l }
 {
-    let background = l.background;
-    let still = l.still;
-    let b = background_spot(background);
-    let s = still_spot(still);
-    let numbers = [
+    let b = background_spot(l.background);
+    let s = still_spot(l.still);
+    *into = [
         b.kind,
         b.index,
         b.line,
@@ -61,7 +53,6 @@ pub fn write_line(l: Line, into: &mut [u32])
         s.line,
         l.lines as u32,
     ];
-    encode::write(&numbers, into);
 }
 
 fn background_spot(background: Background) -> Spot
@@ -75,13 +66,13 @@ fn background_spot(background: Background) -> Spot
     }
 }
 
-fn still_spot(still: Placed) -> Spot
+fn still_spot(still: Option<Place>) -> Spot
     requires { NarrowPlaced still }
     ensures { result ≡ still_spot still }
 {
     match still {
-        Placed::Nowhere => spot_at(0, 0, 0),
-        Placed::At(p) => spot_at(1, p.index as u32, p.line as u32),
+        None => spot_at(0, 0, 0),
+        Some(p) => spot_at(1, p.index as u32, p.line as u32),
     }
 }
 

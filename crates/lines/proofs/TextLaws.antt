@@ -1,27 +1,19 @@
--- Texts that a loop writes: digits from the last one on, zeros in front, bytes one after the other.
-use mathlib.Core.Path.{◌≡◌, refl, sym, ap, ◌∙◌}
+-- Texts that a loop writes or reads: digits from the last one on, zeros in front, the cells of a line.
+use mathlib.Core.Path.{◌≡◌, refl, sym, ◌∙◌}
 use mathlib.Core.List.{List, [], ◌∷◌, ◌++◌, append_assoc}
-use Prim.Native.Nat.{ℕ, zero, suc, ◌+◌, ◌-◌, ◌/◌, ◌%◌, ◌<◌, ◌≤◌, min}
+use Prim.Native.Nat.{ℕ, zero, suc, ◌+◌, ◌-◌, ◌/◌, ◌%◌, ◌<◌, ◌≤◌}
 use native.Mathlib.Omega.{arith}
-use native.Mathlib.Nat.{add_assoc, zero-min, suc-min-suc}
 use native.Mathlib.Numerals.{add-one}
-use lib.ListN.{length, get_or, take, drop, set, length-set, length-drop, length-append, drop_of_length-le}
-use lib.Seq.{drop-cons, drop-set-lt, get_or-set_same, get_or-drop, drop-drop, take-suc, take_at, take-nil, length-take-le}
+use lib.ListN.{length, get_or, take, drop, set, length-set, drop_of_length-le}
+use lib.Seq.{drop-cons, drop-set-lt, get_or-set_same}
 use borrow.Author.Tests.{eq-eqb, ne_eqb}
-use Rattle.memory.proofs.ListLaws.{take_next}
+use Rattle.memory.proofs.ReadBounds.{if-cases}
+use Rattle.memory.specs.Word.{when◌then◌else◌}
+use Rattle.std.proofs.lemmas.Iterator.{index_from_first}
+use Rattle.std.specs.List.{AllWithin, HoldsAt}
+use Rattle.std.specs.Option.{MatchOption, unwrap_or}
+use Rattle.std.specs.Prelude.{Option, Bool, true, false, eqb}
 use Rattle.lines.specs.Lines.{text, digit, digits, hex, fewest, cell_line, more_cells}
-
--- one more byte after the first at + i
-pub put-more : (out text before : List ℕ) (at i : ℕ) → at + i < length out → i < length text → take (at + i) out ≡ before ++ take i text
-    → take (at + (i + 1)) (set out (at + i) (get_or text i 0)) ≡ before ++ take (i + 1) text
-put-more out text before at i h g e =
-    rw (← add_assoc at i 1, take_next out (at + i) (get_or text i 0) h, e, append_assoc, add-one i, take-suc text i 0 g)
-
--- a part in the middle
-pub part-put : (xs ys rest : List ℕ) (at k : ℕ) → at ≤ length xs → length ys ≡ k → take (at + k) (take at xs ++ (ys ++ rest)) ≡ take at xs ++ ys
-part-put xs ys rest at k h e =
-    rw (← append_assoc)
-    (take_at (take at xs ++ ys) rest (at + k) (length-append (take at xs) ys ∙ rw (length-take-le at xs h, e)))
 
 -- one more digit before the others
 digits_last : (base k n : ℕ) (rest : List ℕ) → 0 < k
@@ -48,71 +40,65 @@ unfolding digits
 digits-none base n zero text h = refl
 digits-none base n (suc i) text h = absurd (omega arith)
 
--- zeros in front of the first digit
-first-kept : (l : List ℕ) → 1 < length l → (get_or l 0 0 ≡ 48 → ⊥) → fewest l ≡ l
+-- ---- zeros in front of the first digit ----
+-- how many
+abbrev pub zeros : List ℕ → ℕ
+zeros [] = 0
+zeros (c ∷ l) = when eqb c 48 then suc (zeros l) else 0
+
+-- those before the last digit are not shown
+pub first-shown : (l : List ℕ) (last : ℕ) → last ≡ length l - 1 → drop (zeros (take last l)) l ≡ fewest l
 unfolding fewest
-first-kept [] h f = refl
-first-kept (c ∷ []) h f = refl
-first-kept (c ∷ d ∷ l) h f = rw (ne_eqb c 48 f)
+first-shown [] zero e = refl
+first-shown [] (suc n) e = absurd (omega arith)
+first-shown (c ∷ []) zero e = refl
+first-shown (c ∷ []) (suc n) e = absurd (omega arith)
+first-shown (c ∷ d ∷ l) zero e = absurd (omega arith)
+first-shown (c ∷ d ∷ l) (suc n) e = by (first-shown (d ∷ l) n (omega arith)) (eqb c 48) refl
+  where
+    by : drop (zeros (take n (d ∷ l))) (d ∷ l) ≡ fewest (d ∷ l) → (b : Bool) → eqb c 48 ≡ b
+        → drop (zeros (take (suc n) (c ∷ d ∷ l))) (c ∷ d ∷ l) ≡ fewest (c ∷ d ∷ l)
+    by rest true t = rw t rest
+    by rest false f = rw f refl
 
-first-dropped : (l : List ℕ) → 1 < length l → get_or l 0 0 ≡ 48 → fewest l ≡ fewest (drop 1 l)
-unfolding fewest
-first-dropped [] h e = refl
-first-dropped (c ∷ []) h e = absurd (omega arith)
-first-dropped (c ∷ d ∷ l) h e = rw (eq-eqb c 48 e)
+pub zeros-most : (l : List ℕ) → zeros l ≤ length l
+zeros-most [] = omega arith
+zeros-most (c ∷ l) = if-cases (λ (n : ℕ). n ≤ length (c ∷ l)) (eqb c 48) (λ e. omega (arith, zeros-most l)) (λ e. omega arith)
 
-pub short-kept : (l : List ℕ) → length l ≤ 1 → fewest l ≡ l
-unfolding fewest
-short-kept [] h = refl
-short-kept (c ∷ []) h = refl
-short-kept (c ∷ d ∷ l) h = absurd (omega arith)
+-- a search for another digit finds the place past them
+abbrev pub Zero : ℕ → Type 0
+Zero c = c ≡ 48
 
-module _ (l : List ℕ) (i : ℕ) (h : i + 1 < length l) where
-  more : 1 < length (drop i l)
-  more = rw length-drop (omega arith)
+abbrev pub Other : ℕ → Type 0
+Other c = c ≡ 48 → ⊥
 
-  head : get_or (drop i l) 0 0 ≡ get_or l i 0
-  head = get_or-drop i l 0 0 ∙ ap (λ (j : ℕ). get_or l j 0) (omega arith)
+pub zeros-found : (l : List ℕ) (r : Option ℕ)
+    → MatchOption r (AllWithin Zero l 0 (length l)) (λ i. (i < length l) × HoldsAt Other l i × AllWithin Zero l 0 i) → unwrap_or r (length l) ≡ zeros l
+zeros-found l r f =
+    sym (index_from_first zeros Other Zero refl (λ c l f. rw (ne_eqb c 48 f) refl) (λ c l e. rw (eq-eqb c 48 e) (omega arith)) l r f)
 
-  pub digit-kept : (get_or l i 0 ≡ 48 → ⊥) → fewest (drop i l) ≡ drop i l
-  digit-kept f = first-kept (drop i l) more (λ e. f (sym head ∙ e))
-
-  pub zero-dropped : get_or l i 0 ≡ 48 → fewest (drop i l) ≡ fewest (drop (i + 1) l)
-  zero-dropped e = first-dropped (drop i l) more (head ∙ e) ∙ rw (drop-drop 1 i l)
-
--- the cells of a line
-cells-first : (l : List ℕ) → 0 < length l → cell_line l ≡ hex 8 (get_or l 0 0) ++ more_cells (drop 1 l)
+-- ---- the cells of a line ----
+-- no cells make the line's end
+pub no_cells : (before l : List ℕ) → length l ≡ 0 → before ++ text "\n" ≡ before ++ cell_line l
 unfolding cell_line
-cells-first [] h = absurd (omega arith)
-cells-first (c ∷ l) h = refl
+no_cells before [] e = refl
+no_cells before (c ∷ l) e = absurd (omega arith)
+
+-- the first of them, then the others
+pub first-cell : (l others before out : List ℕ) (c : ℕ) → l ≡ c ∷ others → out ≡ before ++ text "" ++ hex 8 c → out ++ more_cells others ≡ before ++ cell_line l
+unfolding cell_line
+first-cell l others before out c e n = rw (n, e) (simp append_assoc)
 
 cells-more : (l : List ℕ) (i : ℕ) → i < length l → more_cells (drop i l) ≡ text " " ++ hex 8 (get_or l i 0) ++ more_cells (drop (i + 1) l)
 unfolding more_cells
 cells-more l i h = rw (add-one, drop-cons l i 0)
 
-cells-end : (l : List ℕ) (i : ℕ) → length l ≤ i → more_cells (drop i l) ≡ text "\n"
+-- one more of them is written
+pub goes_on : (l out next whole : List ℕ) (i : ℕ) → i < length l → out ++ more_cells (drop i l) ≡ whole
+    → next ≡ out ++ text " " ++ hex 8 (get_or l i 0) → next ++ more_cells (drop (i + 1) l) ≡ whole
+goes_on l out next whole i h e n = rw (n, append_assoc, append_assoc, ← cells-more l i h) e
+
+-- past the last one comes the line's end
+pub comes-to-end : (l out whole : List ℕ) (i : ℕ) → length l ≤ i → out ++ more_cells (drop i l) ≡ whole → out ++ text "\n" ≡ whole
 unfolding more_cells
-cells-end l i h = rw (drop_of_length-le l h)
-
-pub no_cells : (before l : List ℕ) → length l ≤ 0 → before ++ text "\n" ≡ before ++ cell_line l
-unfolding cell_line
-no_cells before [] h = refl
-no_cells before (c ∷ l) h = absurd (omega arith)
-
--- a text that ends in the line of the cells l: with the first of them written, one more, and at the line's end
-module _ (l : List ℕ) where
-  pub begins : (before out : List ℕ) → 0 < length l → out ≡ before ++ text "" ++ hex 8 (get_or l 0 0) → before ++ cell_line l ≡ out ++ more_cells (drop 1 l)
-  begins before out h e = rw (cells-first l h, e) (simp append_assoc)
-
-  pub goes_on : (whole out next : List ℕ) (i : ℕ) → i < length l → whole ≡ out ++ more_cells (drop i l)
-      → next ≡ out ++ text " " ++ hex 8 (get_or l i 0) → whole ≡ next ++ more_cells (drop (i + 1) l)
-  goes_on whole out next i h e n = e ∙ rw (cells-more l i h, n) (simp append_assoc)
-
-  pub comes-to-end : (whole out : List ℕ) (i : ℕ) → length l ≤ i → whole ≡ out ++ more_cells (drop i l) → out ++ text "\n" ≡ whole
-  comes-to-end whole out i h e = sym (e ∙ rw (cells-end l i h))
-
--- no more cells are shown than there are
-pub shown-most : (l : List ℕ) (n : ℕ) → take (min n (length l)) l ≡ take n l
-shown-most [] n = rw (take-nil (min n 0)) (sym (take-nil n))
-shown-most (x ∷ l) zero = rw zero-min
-shown-most (x ∷ l) (suc n) = rw (suc-min-suc, shown-most l n)
+comes-to-end l out whole i h e = rw (drop_of_length-le l h) at e

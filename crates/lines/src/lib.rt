@@ -1,12 +1,35 @@
 #![tactic(auto)]
 // The lines of the draw program's output, each put at the start of a buffer; the answer is the line's length.
-ghost use Rattle.std.specs.Prelude.{◌≡◌, ◌++◌, ◌+◌, ◌≤◌, ◌<◌, min, length, take, drop};
+ghost use Rattle.std.specs.Prelude.{◌≡◌, ◌++◌, ◌+◌, ◌≤◌, ◌<◌, List, ℕ, min, length, take, drop};
 ghost use Rattle.settings.specs.Good.{shown_columns};
+ghost use Rattle.lines.specs.Pieces.{Next};
 ghost use Rattle.lines.specs.Lines.{text, digit as Lines·digit, digits, hex, fewest, decimal, Line, row_line, cell_line, shown_cells, end_line, origin, refusal_line, script_line};
 
 use memory::Refusal;
 use row::DrawnRow;
 use settings::Settings;
+
+// `count` bytes of a text, and what comes after them.
+#[derive(Clone, Copy)]
+pub struct Piece<T> {
+    pub count: usize,
+    pub after: T,
+}
+
+// A text that comes in pieces, each at the start of a buffer; what it is a text of is lent to each call.
+pub trait Pieces: Copy {
+    type Of;
+
+    // What is still to come.
+    ghost to_come: { Self.Of → Self → List ℕ };
+
+    // A bound on the calls that it takes to the text's end.
+    ghost calls: { Self → ℕ };
+
+    // The next piece, or that the text is at its end.
+    fn next(self, of: &Self::Of, out: &mut [u8; 2048]) -> Option<Piece<Self>>
+        ensures { Next (to_come of.now) calls self result out.new };
+}
 
 // The lines of a row: one with its number, lines, row attributes and words, and one with its shown cells.
 pub fn row_lines(
@@ -18,10 +41,11 @@ pub fn row_lines(
     ensures { Line (row_line row ++ cell_line (shown_cells settings cells.now)) result out.new }
 {
     let at = put_row(out, row);
-    put_cells(out, at, cells, cells_shown(settings))
+    put_cells(out, at, &cells[..cells_shown(settings)])
 }
 
 // The last line of a frame: its rows and words.
+#[tactic(auto, unfolding(crate::specs::Lines::end_line))]
 pub fn end_line(rows: u64, words: u64, out: &mut [u8; 2048]) -> usize
     ensures { Line (end_line rows words) result out.new }
 {
@@ -31,6 +55,7 @@ pub fn end_line(rows: u64, words: u64, out: &mut [u8; 2048]) -> usize
 }
 
 // The line of a refusal.
+#[tactic(auto, unfolding(crate::specs::Lines::refusal_line))]
 pub fn refusal_line(refusal: Refusal, out: &mut [u8; 2048]) -> usize
     ensures { Line (refusal_line refusal) result out.new }
 {
@@ -42,6 +67,7 @@ pub fn refusal_line(refusal: Refusal, out: &mut [u8; 2048]) -> usize
 }
 
 // The line of a refused script.
+#[tactic(auto, unfolding(crate::specs::Lines::script_line))]
 pub fn script_line(offset: u64, out: &mut [u8; 2048]) -> usize
     ensures { Line (script_line offset) result out.new }
 {
@@ -54,12 +80,9 @@ pub fn put(out: &mut [u8], at: usize, text: &[u8]) -> usize
     requires { at + length text.now ≤ length out.old }
     ensures { (result ≡ at + length text.now) × (take result out.new ≡ take at out.old ++ text.now) }
 {
-    let mut i = 0;
-    while i < text.len() {
-        out[at + i] = text[i];
-        i += 1;
-    }
-    at + i
+    let end = at + text.len();
+    out[at..end].copy_from_slice(text);
+    end
 }
 
 // The end of a line.
@@ -83,6 +106,7 @@ fn put_origin(out: &mut [u8], at: usize, refusal: Refusal) -> usize
 }
 
 // The first line of a row.
+#[tactic(auto, unfolding(crate::specs::Lines::row_line))]
 fn put_row(out: &mut [u8; 2048], row: DrawnRow) -> usize
     ensures { (result ≤ 88) × (take result out.new ≡ row_line row) }
 {
@@ -93,19 +117,17 @@ fn put_row(out: &mut [u8; 2048], row: DrawnRow) -> usize
     put(out, at, b"\n")
 }
 
-// The first `columns` cells as a line, after the first `start` bytes.
-pub fn put_cells(out: &mut [u8], start: usize, cells: &[u32], columns: usize) -> usize
-    requires { (columns ≤ length cells.now) × (columns ≤ 132) × (length out.old ≡ 2048) × (start ≤ 800) }
-    ensures { Line (take start out.old ++ cell_line (take columns cells.now)) result out.new }
+// Cells as a line, after the first `start` bytes.
+pub fn put_cells(out: &mut [u8; 2048], start: usize, cells: &[u32]) -> usize
+    requires { (length cells.now ≤ 132) × (start ≤ 800) }
+    ensures { Line (take start out.old ++ cell_line cells.now) result out.new }
 {
-    if columns == 0 {
+    let Some((&first, others)) = cells.split_first() else {
         return put_end(out, start);
-    }
-    let mut at = put_hex(out, start, b"", 8, cells[0]);
-    let mut i = 1;
-    while i < columns {
-        at = put_cell(out, at, cells[i]);
-        i += 1;
+    };
+    let mut at = put_hex(out, start, b"", 8, first);
+    for &cell in others {
+        at = put_cell(out, at, cell);
     }
     put_end(out, at)
 }
@@ -145,14 +167,8 @@ pub fn put_number(out: &mut [u8], at: usize, name: &[u8], n: u64) -> usize
 fn first_digit(text: &[u8]) -> usize
     ensures { (result ≤ length text.now) × (drop result text.now ≡ fewest text.now) }
 {
-    let mut i = 0;
-    while i + 1 < text.len() {
-        if text[i] != b'0' {
-            return i;
-        }
-        i += 1;
-    }
-    i
+    let last = text.len().saturating_sub(1);
+    text[..last].iter().position(|&c| c != b'0').unwrap_or(last)
 }
 
 // As many digits of `n` as `text` holds, the last one last.
@@ -160,10 +176,8 @@ fn spell(base: u64, n: u64, text: &mut [u8])
     requires { (0 < base) × (base ≤ 16) }
     ensures { text.new ≡ digits base (length text.old) n }
 {
-    let mut i = text.len();
     let mut rest = n;
-    while 0 < i {
-        i -= 1;
+    for i in (0..text.len()).rev() {
         text[i] = digit(rest % base);
         rest /= base;
     }
@@ -173,13 +187,16 @@ fn digit(d: u64) -> u8
     requires { d < 16 }
     ensures { result ≡ Lines·digit d }
 {
-    if d < 10 { 48 + d as u8 } else { 55 + d as u8 }
+    if d < 10 {
+        b'0' + d as u8
+    } else {
+        b'A' + (d - 10) as u8
+    }
 }
 
 // How many of a row's 132 cells are shown.
 pub fn cells_shown(s: Settings) -> usize
     ensures { result ≡ min (shown_columns s) 132 }
 {
-    let columns = settings::shown_columns(s) as usize;
-    if columns < 132 { columns } else { 132 }
+    (settings::shown_columns(s) as usize).min(132)
 }

@@ -1,4 +1,5 @@
 -- What a start or a row leaves in its list, from what the walk over its addresses wrote.
+use Rattle.std.proofs.Common.{Result, Ok}
 use mathlib.Core.Path.{◌≡◌, refl, ap, ap₂, sym, ◌∙◌}
 use mathlib.Core.List.{List, [], ◌∷◌, ◌++◌}
 use mathlib.Core.Bool.{Bool, true, false}
@@ -13,16 +14,15 @@ use Rattle.memory.specs.Word.{when◌then◌else◌}
 use Rattle.memory.specs.Reading.{Reading, done, refuse, ask, absent, ◌>>=◌, Outcome, given, refused, run_from, run, asked}
 use Rattle.memory.proofs.Laws.{after, run-after}
 use Rattle.memory.proofs.ReadBounds.{Words}
+use Rattle.memory.specs.declared.Refusal.{Refusal}
 use Rattle.settings.specs.declared.Settings.{Settings}
 use Rattle.state.specs.declared.Fields.{Fields}
 use Rattle.state.specs.declared.State.{State}
-use Rattle.start.specs.declared.StartAnswer.{StartAnswer}
 use Rattle.start.specs.Top.{registered}
 use Rattle.start.specs.Start.{start_from, started, start_call}
 use Rattle.row.specs.declared.DrawnRow.{DrawnRow}
-use Rattle.row.specs.declared.RowAnswer.{RowAnswer}
-use Rattle.row.specs.declared.RowAnswer.TheVariants as Row
 use Rattle.codes.specs.Codes.{Drawing, blank}
+use Rattle.start.specs.declared.Started.{Started}
 use Rattle.cells.specs.Cells.{row_cells}
 use Rattle.plan.specs.Plan.{Plan, plan}
 use Rattle.row.specs.Row.{code_settings, Row, drawn_by, row, with_cursor, Called, called, answered, row_call}
@@ -51,14 +51,14 @@ start-short σ =
     omega (arith, length-append x y, pointed-short l 7 (registered l σ.top), pointed-short l 6 (registered l σ.tow))
 
 module _ (latch : ℕ) (σ : Settings) (m l : List ℕ) (len : length l ≡ 12000) where
-  after-start : (o : Outcome State) → run m (start_from latch σ) ≡ o → (r : StartAnswer) → r ≡ started o
+  after-start : (o : Outcome State) → run m (start_from latch σ) ≡ o → (r : Result Started Refusal) → r ≡ started o
       → start_placed r (start_addresses σ) l ≡ unless_refused o (asked m (start_from latch σ)) l
   after-start (given n s) h r e =
-      ap (λ (x : StartAnswer). start_placed x (start_addresses σ) l) e ∙ sets-written (start_addresses σ) l (omega (arith, start-short σ))
+      ap (λ (x : Result Started Refusal). start_placed x (start_addresses σ) l) e ∙ sets-written (start_addresses σ) l (omega (arith, start-short σ))
       ∙ ap (λ (xs : List ℕ). written xs l) (sym (asked-start latch σ m h))
-  after-start (refused x) h r e = ap (λ (x : StartAnswer). start_placed x (start_addresses σ) l) e
+  after-start (refused x) h r e = ap (λ (x : Result Started Refusal). start_placed x (start_addresses σ) l) e
 
-  pub start-law : (r : StartAnswer) (k : List ℕ) → r ≡ start_call latch σ m → k ≡ start_placed r (start_addresses σ) l → start_with r k ≡ start_listed latch σ m l
+  pub start-law : (r : Result Started Refusal) (k : List ℕ) → r ≡ start_call latch σ m → k ≡ start_placed r (start_addresses σ) l → start_with r k ≡ start_listed latch σ m l
   unfolding start_listed start_call
   start-law r k e f =
       rw (eq-eqb (length l) 12000 len) (ap₂ start_with e (f ∙ after-start (run m (start_from latch σ)) refl r e))
@@ -73,19 +73,19 @@ pub record From (σ : Settings) (f : Fields) (o : Outcome Row) (buffer : List �
   pub cells : buffer ≡ with_cursor σ f row.drawing.cells
 
 pub accepted-from : (σ : Settings) (f : Fields) (before : List ℕ) (o : Outcome Row) {d : DrawnRow} {buffer : List ℕ}
-    → called (Row.Accepted d) buffer ≡ answered σ f before o → From σ f o buffer
+    → called (Ok d) buffer ≡ answered σ f before o → From σ f o buffer
 accepted-from σ f before (given n r) e = record { words = n; row = r; is = refl; cells = ap (λ (c : Called). c.buffer) e }
 accepted-from σ f before (refused x) e =
     let h = ap (λ (c : Called). c.answer) e in
     let q : ◌≡◌ {A = ℕ} 0 1 = cc in absurd (omega arith)
 
-after-row : (σ : Settings) (f : Fields) (before xs l : List ℕ) (o : Outcome Row) {r : RowAnswer} {buffer : List ℕ}
+after-row : (σ : Settings) (f : Fields) (before xs l : List ℕ) (o : Outcome Row) {r : Result DrawnRow Refusal} {buffer : List ℕ}
     → called r buffer ≡ answered σ f before o → length xs ≤ length l → placed r 0 xs l ≡ unless_refused o xs l
 after-row σ f before xs l (given n r) e h = ap (λ (c : Called). placed c.answer 0 xs l) e ∙ sets-written xs l h
 after-row σ f before xs l (refused x) e h = ap (λ (c : Called). placed c.answer 0 xs l) e
 
 pub row-law : (σ : Settings) (m : List ℕ) → Words m → (s : State) → s.fields.fill.code < 256 → (before l : List ℕ) → length before ≡ 132 → length l ≡ 12000
-    → (r : RowAnswer) (buffer k : List ℕ) → called r buffer ≡ answered σ s.fields before (run m (row σ s)) → k ≡ placed r 0 (asked m (row σ s)) l
+    → (r : Result DrawnRow Refusal) (buffer k : List ℕ) → called r buffer ≡ answered σ s.fields before (run m (row σ s)) → k ≡ placed r 0 (asked m (row σ s)) l
     → row_with r buffer k ≡ row_listed σ m s before l
 unfolding row_listed row_call
 row-law σ m b s byte before l lb ll r buffer k e f =

@@ -1,20 +1,19 @@
 -- What the functions of this crate leave in a list, as what the rules give: no rules of their own.
-use Rattle.std.specs.Prelude.{ℕ, Bool, true, false, List}
+use Rattle.std.specs.Prelude.{ℕ, Bool, true, false, List, Result, Ok, Err}
 use Rattle.std.proofs.lemmas.List.Edits.{sets}
-use Rattle.start.specs.declared.StartAnswer.{StartAnswer}
-use Rattle.start.specs.declared.StartAnswer.TheVariants as Start
-use Rattle.row.specs.declared.RowAnswer.{RowAnswer}
-use Rattle.row.specs.declared.RowAnswer.TheVariants as Row
+use Rattle.memory.specs.declared.Refusal.{Refusal}
+use Rattle.start.specs.declared.Started.{Started}
+use Rattle.row.specs.declared.DrawnRow.{DrawnRow}
 
 -- the list after a start or a row that was answered so: addresses from a place on, or as it was
-abbrev pub start_placed : StartAnswer → (addresses list : List ℕ) → List ℕ
-start_placed (Start.Accepted s) addresses list = sets list 0 addresses
-start_placed (Start.Refused r) addresses list = list
+abbrev pub start_placed : Result Started Refusal → (addresses list : List ℕ) → List ℕ
+start_placed (Ok s) addresses list = sets list 0 addresses
+start_placed (Err r) addresses list = list
 
-abbrev pub placed : RowAnswer → (at : ℕ) → (addresses list : List ℕ) → List ℕ
-placed (Row.Accepted r) at addresses list = sets list at addresses
-placed (Row.Refused r) at addresses list = list
+abbrev pub placed : Result DrawnRow Refusal → (at : ℕ) → (addresses list : List ℕ) → List ℕ
+placed (Ok r) at addresses list = sets list at addresses
+placed (Err r) at addresses list = list
 
-abbrev pub is_accepted : RowAnswer → Bool
-is_accepted (Row.Accepted r) = true
-is_accepted (Row.Refused r) = false
+abbrev pub is_accepted : Result DrawnRow Refusal → Bool
+is_accepted (Ok r) = true
+is_accepted (Err r) = false

@@ -13,8 +13,9 @@ ghost use Rattle.sure.specs.Sure.{sure_row};
 ghost use Rattle.row.specs.Row.{code_settings, row, called, answered, FewWords};
 ghost use Rattle.listed.specs.Answers.{is_accepted};
 
+use memory::Refusal;
 use plan::PlanHead;
-use row::RowAnswer;
+use row::DrawnRow;
 use settings::Settings;
 use state::State;
 
@@ -31,7 +32,7 @@ pub(crate) fn draw(
     buffer: &mut [u32],
     at: u32,
     list: &mut [u32],
-) -> RowAnswer
+) -> Result<DrawnRow, Refusal>
     requires buffer_len { (length buffer.old ≡ 132) × (given p.words (plan_of settings.linear p back.now window.now) ≡ run mem.now (plan settings state.fields)) }
     requires fact { ((certain ≡ true → sure_row settings.hidden state.fields.fill.flag mem.now (overlay_of true p.overlay window.now) (segments_of true p.count back.now) ≡ true)) × (at ≤ 13) }
     ensures few_words { FewWords result × (certain ≡ true → is_accepted result ≡ true) }
@@ -57,7 +58,7 @@ fn draw_sure(
     buffer: &mut [u32],
     at: u32,
     list: &mut [u32],
-) -> RowAnswer
+) -> Result<DrawnRow, Refusal>
     requires buffer_len { (length buffer.old ≡ 132) × (given p.words (plan_of settings.linear p back.now window.now) ≡ run mem.now (plan settings state.fields)) }
     requires back_value { (sure_row settings.hidden state.fields.fill.flag mem.now (overlay_of true p.overlay window.now) (segments_of true p.count back.now) ≡ true) × (at ≤ 13) }
     ensures few_words { FewWords result × (is_accepted result ≡ true) }

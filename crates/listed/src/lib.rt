@@ -8,28 +8,30 @@ ghost use Rattle.row.specs.Row.{row, called, answered, FewWords};
 ghost use Rattle.listed.specs.Listed.{start_with, start_listed, row_with, row_listed};
 ghost use Rattle.listed.specs.Answers.{placed};
 
-use plan::{PlanAnswer, PlanHead};
-use row::RowAnswer;
+use memory::Refusal;
+use plan::PlanHead;
+use row::DrawnRow;
 use settings::Settings;
-use start::StartAnswer;
+use start::Started;
 use state::State;
 
 mod drawing; // a planned row, sure or not
 
 // The start of a frame, its addresses in `list`; or refusal 25, or that of the start, which leave the list as it was.
-pub fn start(settings: Settings, mem: &[u16], latch: u16, list: &mut [u32]) -> StartAnswer
+pub fn start(
+    settings: Settings,
+    mem: &[u16],
+    latch: u16,
+    list: &mut [u32],
+) -> Result<Started, Refusal>
     ensures { start_with result list.new ≡ start_listed latch settings mem.now list.old }
 {
     if list.len() != 12000 {
-        return StartAnswer::Refused(memory::refusal_of(0, memory::fault_of(25)));
+        return memory::refused(25);
     }
-    match start::start(settings, mem, latch) {
-        StartAnswer::Refused(refusal) => StartAnswer::Refused(refusal),
-        StartAnswer::Accepted(started) => {
-            addresses::put_start(settings, list);
-            StartAnswer::Accepted(started)
-        }
-    }
+    let started = start::start(settings, mem, latch)?;
+    addresses::put_start(settings, list);
+    Ok(started)
 }
 
 // The next row, its cells in `buffer` and its addresses in `list`; or a refusal, which leaves both as they were.
@@ -39,16 +41,16 @@ pub fn row(
     state: State,
     buffer: &mut [u32],
     list: &mut [u32],
-) -> RowAnswer
+) -> Result<DrawnRow, Refusal>
     ensures few_words { FewWords result }
     ensures list_after { row_with result buffer.new list.new ≡ row_listed settings mem.now state buffer.old list.old }
 {
     let fields = state.fields;
     if buffer.len() != 132 {
-        return RowAnswer::Refused(memory::refusal_of(fields.row, memory::fault_of(1)));
+        return Err(memory::refusal_of(fields.row, memory::fault_of(1)));
     }
     if list.len() != 12000 {
-        return RowAnswer::Refused(memory::refusal_of(fields.row, memory::fault_of(25)));
+        return Err(memory::refusal_of(fields.row, memory::fault_of(25)));
     }
     row_at(settings, mem, state, buffer, 0, list)
 }
@@ -61,7 +63,7 @@ pub fn row_at(
     buffer: &mut [u32],
     at: usize,
     list: &mut [u32],
-) -> RowAnswer
+) -> Result<DrawnRow, Refusal>
     requires { (length buffer.old ≡ 132) × (length list.old ≡ 12000) × (at ≤ 13) }
     ensures few_words { FewWords result }
     ensures buffer_after { called result buffer.new ≡ answered settings state.fields buffer.old (run mem.now (row settings state)) }
@@ -70,12 +72,9 @@ pub fn row_at(
     let fields = state.fields;
     let mut back = [0u16; 75];
     let mut window = [0u16; 75];
-    match plan::plan_row(mem, settings, fields, &mut back, &mut window) {
-        PlanAnswer::Refused(fault) => RowAnswer::Refused(memory::refusal_of(fields.row, fault)),
-        PlanAnswer::Planned(p) => planned_at(
-            settings, mem, state, p, &back, &window, buffer, at, list,
-        ),
-    }
+    let plan = plan::plan_row(mem, settings, fields, &mut back, &mut window);
+    let p = memory::told_in(fields.row, plan)?;
+    planned_at(settings, mem, state, p, &back, &window, buffer, at, list)
 }
 
 // A planned row: drawn, with the addresses of its cells' words where it is sure. Once it is accepted those of its blocks are written, and
@@ -90,7 +89,7 @@ fn planned_at(
     buffer: &mut [u32],
     at: usize,
     list: &mut [u32],
-) -> RowAnswer
+) -> Result<DrawnRow, Refusal>
     requires buffer_len { (length buffer.old ≡ 132) × (given p.words (plan_of settings.linear p back.now window.now) ≡ run mem.now (plan settings state.fields)) }
     requires list_len { (length list.old ≡ 12000) × (at ≤ 13) }
     ensures few_words { FewWords result }
@@ -103,15 +102,11 @@ fn planned_at(
     let count = p.count;
     let code = row::code_settings(settings);
     let certain = sure::known::is_sure(mem, code, fill, overlay, back, count, window);
-    match drawing::draw(
+    let drawn = drawing::draw(
         certain, settings, mem, state, p, back, window, buffer, at as u32, list,
-    ) {
-        RowAnswer::Refused(refusal) => RowAnswer::Refused(refusal),
-        RowAnswer::Accepted(drawn) => {
-            addresses::put_row(
-                mem, code, fields, overlay, back, count, window, buffer, certain, at, list,
-            );
-            RowAnswer::Accepted(drawn)
-        }
-    }
+    )?;
+    addresses::put_row(
+        mem, code, fields, overlay, back, count, window, buffer, certain, at, list,
+    );
+    Ok(drawn)
 }

@@ -1,5 +1,6 @@
 -- Demand 3 with lists: a call stands on the state that the effects above it make, so that the row drawn alone is the same reading and asks for
 -- the same addresses.
+use Rattle.std.proofs.Common.{Result, Err}
 use mathlib.Core.Path.{◌≡◌, refl, ap, ap₂, ◌∙◌}
 use mathlib.Core.Bool.{Bool, true, false, ◌&&◌}
 use mathlib.Core.List.{List, [], ◌∷◌, ◌++◌}
@@ -12,16 +13,16 @@ use Rattle.memory.specs.Word.{when◌then◌else◌}
 use Rattle.memory.specs.declared.Fault.{Fault}
 use Rattle.memory.proofs.ReadBounds.{both}
 use Rattle.memory.specs.Reading.{Reading, done, refuse, ask, fault, refusal, absent, Outcome, given, refused, run_from, run, asked}
+use Rattle.memory.specs.declared.Refusal.{Refusal}
 use Rattle.settings.specs.declared.Settings.{Settings}
 use Rattle.state.specs.declared.Fields.{Fields}
 use Rattle.state.specs.declared.State.{State}
 use Rattle.state.specs.State.{state_of}
-use Rattle.row.specs.declared.RowAnswer.{RowAnswer}
-use Rattle.row.specs.declared.RowAnswer.TheVariants.{Refused}
 use Rattle.row.specs.Row.{Row, row, Called, called, answered, row_call}
 use Rattle.joining.specs.declared.Effect.{Effect}
 use Rattle.joining.specs.Join.{empty, apply}
 use Rattle.joining.proofs.Joining.{apply-empty}
+use Rattle.row.specs.declared.DrawnRow.{DrawnRow}
 use Rattle.effect.specs.Demand.{state_after}
 use Rattle.effect.proofs.Alone.{Stands, goes, stays, tail}
 use Rattle.listed.specs.Listed.{written, unless_refused, list_after, row_with, called_with, row_listed}
@@ -58,10 +59,10 @@ wrong : (σ : Settings) (m : List ℕ) (s : State) (b list : List ℕ) → eqb (
 unfolding row_listed row_call state_after
 wrong σ m s b list = by_size (eqb (length b) 132) (eqb (length list) 12000)
   where
-    answer : (t u : Bool) → RowAnswer
+    answer : (t u : Bool) → Result DrawnRow Refusal
     answer t u =
-        let c : Called = when t then answered σ s.fields b (run m (row σ s)) else called (Refused (refusal s.fields.row (fault 1))) b in
-        (when t then (when u then called_with c (list_after m (row σ s) list) else row_with (Refused (refusal s.fields.row (fault 25))) b list) else called_with c list).answer
+        let c : Called = when t then answered σ s.fields b (run m (row σ s)) else called (Err (refusal s.fields.row (fault 1))) b in
+        (when t then (when u then called_with c (list_after m (row σ s) list) else row_with (Err (refusal s.fields.row (fault 25))) b list) else called_with c list).answer
 
     by_size : (t u : Bool) → t && u ≡ false → state_after s (answer t u) ≡ s
     by_size true true e = let q : ◌≡◌ {A = ℕ} 0 1 = cc in absurd (omega arith)

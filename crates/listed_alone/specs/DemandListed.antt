@@ -1,18 +1,16 @@
 -- Demand 3, "A row can be drawn alone", for row calls with a list: the statement. Document 02: "Demand 3 takes a call refused 25 like one
 -- refused 1, and lends the row drawn alone a list of 12,000 places; an effect is lent no list and takes a row's checks but 1 and 25."
 -- Without lists it is `Demand3` of effect/specs/Demand.antt, whose words on effects hold here too.
-use Rattle.std.specs.Prelude.{ℕ, ◌≡◌, Bool, ◌&&◌, List, [], ◌∷◌, ◌++◌, length, take, drop, eqb}
+use Rattle.std.specs.Prelude.{ℕ, ◌≡◌, Bool, ◌&&◌, List, [], ◌∷◌, ◌++◌, length, take, drop, eqb, Result, Ok, Err}
 use Rattle.memory.specs.Word.{when◌then◌else◌}
+use Rattle.memory.specs.declared.Refusal.{Refusal}
 use Rattle.settings.specs.declared.Settings.{Settings}
 use Rattle.state.specs.declared.Fields.{Fields}
 use Rattle.state.specs.declared.State.{State}
 use Rattle.state.specs.State.{state_of}
-use Rattle.row.specs.declared.RowAnswer.{RowAnswer}
-use Rattle.row.specs.declared.RowAnswer.TheVariants.{Accepted, Refused}
 use Rattle.joining.specs.declared.Effect.{Effect}
-use Rattle.joining.specs.declared.Applied.{Applied}
-use Rattle.joining.specs.declared.Applied.TheVariants.{Latch, Refused as Refuses}
 use Rattle.joining.specs.Join.{empty, join, apply}
+use Rattle.row.specs.declared.DrawnRow.{DrawnRow}
 use Rattle.effect.specs.declared.EffectAnswer.{EffectAnswer}
 use Rattle.effect.specs.Demand.{state_after, effect_on, fields_after}
 use Rattle.listed.specs.Listed.{RowListed, row_with, row_listed}
@@ -34,9 +32,9 @@ is_row c = eqb (length c.buffer) 132 && eqb (length c.list) 12000
 
 -- "Its answer and its buffer's cells equal the call's, or its refusal does", and its list does: as many places as words were read hold the
 -- same addresses, and "places past them stay" in the call's list; a refusal leaves the call's buffer and list as they were handed in
-unfoldable pub on_lent : Call → RowAnswer → (cells list : List ℕ) → RowListed
-on_lent c (Accepted r) cells list = row_with (Accepted r) cells (take r.words list ++ drop r.words c.list)
-on_lent c (Refused r) cells list = row_with (Refused r) c.buffer c.list
+unfoldable pub on_lent : Call → Result DrawnRow Refusal → (cells list : List ℕ) → RowListed
+on_lent c (Ok r) cells list = row_with (Ok r) cells (take r.words list ++ drop r.words c.list)
+on_lent c (Err r) cells list = row_with (Err r) c.buffer c.list
 
 -- "demand 3 is for lists with no write in them": memory stays
 module _ (σ : Settings) (m : List ℕ) where
@@ -50,9 +48,9 @@ module _ (σ : Settings) (m : List ℕ) where
 
   -- the first refusal of the rows above; or a row call with 132 cells and a list of 12,000 places, on the fields then reached and the
   -- latch that the joined effects make of the first one
-  unfoldable pub row_alone : Fields → Call → Applied → RowListed
-  row_alone f c (Refuses r) = row_with (Refused r) c.buffer c.list
-  row_alone f c (Latch l) =
+  unfoldable pub row_alone : Fields → Call → Result ℕ Refusal → RowListed
+  row_alone f c (Err r) = row_with (Err r) c.buffer c.list
+  row_alone f c (Ok l) =
       let out : RowListed = row_listed σ m (state_of l f) c.alone_buffer c.alone_list in
       on_lent c out.answer out.buffer out.list
 

@@ -3,10 +3,9 @@
 ghost use Rattle.std.specs.Prelude.{◌≡◌};
 ghost use Rattle.listed_beside.specs.ListedBeside.{beside_with, below_listed, above_listed, beside_listed};
 
-use beside::BesideAnswer;
-use row::RowAnswer;
+use beside::BesideRow;
+use memory::Refusal;
 use settings::{PointerWords, Settings};
-use start::StartAnswer;
 use state::State;
 
 // The row beside the cut of a frame with a shift, its cells in `buffer` and its addresses in `list`; none where the shift is 0, and then
@@ -20,7 +19,7 @@ pub fn beside(
     last: State,
     buffer: &mut [u32],
     list: &mut [u32],
-) -> BesideAnswer
+) -> Result<Option<BesideRow>, Refusal>
     ensures { beside_with result buffer.new list.new ≡ beside_listed settings mem.now shift soft latch last buffer.old list.old }
 {
     if 0 < shift {
@@ -29,7 +28,7 @@ pub fn beside(
     if shift < 0 {
         return row_above(beside::with_top(settings, soft), mem, latch, buffer, list);
     }
-    BesideAnswer::Absent
+    Ok(None)
 }
 
 // Up: the row after the frame's last, given one line.
@@ -39,7 +38,7 @@ fn row_below(
     last: State,
     buffer: &mut [u32],
     list: &mut [u32],
-) -> BesideAnswer
+) -> Result<Option<BesideRow>, Refusal>
     ensures { beside_with result buffer.new list.new ≡ below_listed settings mem.now last buffer.old list.old }
 {
     let f = last.fields;
@@ -48,10 +47,8 @@ fn row_below(
         latch: last.latch,
         fields,
     };
-    match listed::row(settings, mem, state, buffer, list) {
-        RowAnswer::Refused(refusal) => BesideAnswer::Refused(refusal),
-        RowAnswer::Accepted(row) => beside::tell(0, row),
-    }
+    let row = listed::row(settings, mem, state, buffer, list)?;
+    Ok(Some(beside::tell(0, row)))
 }
 
 // Down: row 0 of a start with these settings. The start's addresses are written last, once its row is accepted.
@@ -61,27 +58,19 @@ fn row_above(
     latch: u16,
     buffer: &mut [u32],
     list: &mut [u32],
-) -> BesideAnswer
+) -> Result<Option<BesideRow>, Refusal>
     ensures { beside_with result buffer.new list.new ≡ above_listed settings mem.now latch buffer.old list.old }
 {
     if buffer.len() != 132 {
-        return BesideAnswer::Refused(memory::refusal_of(0, memory::fault_of(1)));
+        return memory::refused(1);
     }
     if list.len() != 12000 {
-        return BesideAnswer::Refused(memory::refusal_of(0, memory::fault_of(25)));
+        return memory::refused(25);
     }
-    match start::start(settings, mem, latch) {
-        StartAnswer::Refused(refusal) => BesideAnswer::Refused(refusal),
-        StartAnswer::Accepted(started) => {
-            let state = started.state;
-            let at = started.words as usize;
-            match listed::row_at(settings, mem, state, buffer, at, list) {
-                RowAnswer::Refused(refusal) => BesideAnswer::Refused(refusal),
-                RowAnswer::Accepted(row) => {
-                    addresses::put_start(settings, list);
-                    beside::tell(started.words, row)
-                }
-            }
-        }
-    }
+    let started = start::start(settings, mem, latch)?;
+    let state = started.state;
+    let at = started.words as usize;
+    let row = listed::row_at(settings, mem, state, buffer, at, list)?;
+    addresses::put_start(settings, list);
+    Ok(Some(beside::tell(started.words, row)))
 }

@@ -1,13 +1,13 @@
 -- A cell's character and marks, and the text of a row's cells one after the other.
-use mathlib.Core.Path.{◌≡◌, ap, ◌∙◌}
+use mathlib.Core.Path.{◌≡◌, ◌∙◌}
 use mathlib.Core.Bool.{true}
 use mathlib.Core.List.{List, [], ◌∷◌, ◌++◌, map, append_assoc}
 use Prim.Native.Nat.{ℕ, ◌+◌, ◌/◌, ◌%◌, ◌<◌, ◌≤◌}
 use native.Mathlib.Omega.{arith}
 use native.Mathlib.Nat.{div-one}
 use native.Mathlib.Numerals.{add-one}
-use lib.ListN.{length, get_or, take, drop, drop_of_length-le, get_or-map}
-use lib.Seq.{drop-cons, get_or-take}
+use lib.ListN.{length, length-map, get_or, drop, drop_of_length-le, get_or-map}
+use lib.Seq.{drop-cons}
 use lib.Dec.{eqb}
 use borrow.Author.Tests.{leb-true}
 use Rattle.memory.specs.Word.{when◌then◌else◌}
@@ -60,11 +60,9 @@ unfolding cells_text
 cells-end before l i h = rw (drop_of_length-le l h)
 
 -- a text that goes on with the cells of a row buffer, after one more of them
-pub goes_on : (whole out next cells : List ℕ) (before columns i : ℕ) → i < columns → i < length (map text_cell (take columns cells))
-    → whole ≡ out ++ cells_text before (drop i (map text_cell (take columns cells)))
+pub goes_on : (whole out next cells : List ℕ) (before i : ℕ) → i < length cells
+    → whole ≡ out ++ cells_text before (drop i (map text_cell cells))
     → next ≡ out ++ change before (marks_of (text_cell (get_or cells i 0))) ++ (character_of (text_cell (get_or cells i 0)) ∷ [])
-    → whole ≡ next ++ cells_text (marks_of (text_cell (get_or cells i 0))) (drop (i + 1) (map text_cell (take columns cells)))
-goes_on whole out next cells before columns i h g e n =
-    let l = map text_cell (take columns cells) in
-    let q : get_or l i (text_cell 0) ≡ text_cell (get_or cells i 0) = get_or-map text_cell (take columns cells) i 0 ∙ ap text_cell (get_or-take columns cells i 0 h) in
-    e ∙ rw (cells-next before l i (text_cell 0) g, q, n) (simp append_assoc)
+    → whole ≡ next ++ cells_text (marks_of (text_cell (get_or cells i 0))) (drop (i + 1) (map text_cell cells))
+goes_on whole out next cells before i h e n =
+    e ∙ rw (cells-next before (map text_cell cells) i (text_cell 0) (simp length-map h), get_or-map text_cell cells i 0, n) (simp append_assoc)

@@ -1,4 +1,5 @@
 -- The writer call by its cases, from the text of the row in an array of its own.
+use Rattle.std.proofs.Common.{Ok}
 use mathlib.Core.Path.{◌≡◌, sym, ap, ◌∙◌}
 use mathlib.Core.Bool.{true, false}
 use mathlib.Core.List.{List, ◌++◌}
@@ -9,7 +10,6 @@ use lib.Seq.{length-take-le}
 use borrow.Author.Tests.{eq-eqb, ne_eqb, le-leb, lt-leb}
 use Rattle.settings.specs.declared.Settings.{Settings}
 use Rattle.settings.specs.Good.{good}
-use Rattle.mail.specs.declared.Written.TheVariants.{Text}
 use Rattle.mail.specs.Mail.{mail_text}
 use Rattle.mail.specs.Write.{mailed, refuse, write_mail}
 use Rattle.mail.specs.Answers.{Put}
@@ -39,7 +39,7 @@ module _ (σ : Settings) (cells buffer : List ℕ) where
         rw (eq-eqb (length cells) 132 h, g, lt-leb (length (mail_text σ cells)) (length buffer) (omega arith))
 
     pub all-written : (end : ℕ) (new : List ℕ) → count ≤ length buffer → Put 0 (take count row) buffer end new
-        → mailed (Text count) new ≡ write_mail σ cells buffer
+        → mailed (Ok count) new ≡ write_mail σ cells buffer
     unfolding write_mail
     all-written end new l p =
         let n = long in
@@ -47,4 +47,4 @@ module _ (σ : Settings) (cells buffer : List ℕ) where
         let whole : new ≡ mail_text σ cells ++ drop count buffer =
         sym (take-append-drop end new) ∙ rw (p.front, p.past, at, e) in
         rw (eq-eqb (length cells) 132 h, g, le-leb (length (mail_text σ cells)) (length buffer) (omega arith))
-        (ap (mailed (Text count)) whole ∙ ap (λ (k : ℕ). mailed (Text k) (mail_text σ cells ++ drop k buffer)) (sym n))
+        (ap (mailed (Ok count)) whole ∙ ap (λ (k : ℕ). mailed (Ok k) (mail_text σ cells ++ drop k buffer)) (sym n))

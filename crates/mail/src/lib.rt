@@ -10,38 +10,31 @@ ghost use Rattle.mail.specs.Answers.{Put};
 use memory::Refusal;
 use settings::Settings;
 
-// The length of the text written, or the refusal.
-#[derive(Clone, Copy)]
-pub enum Written {
-    Text(usize),
-    Refused(Refusal),
-}
-
 // The shown columns of a row's cells as text, at the start of `text`; or refusal 1, 2 or 23, which leave `text` as it was.
-pub fn write_mail(settings: Settings, cells: &[u32], text: &mut [u8]) -> Written
+pub fn write_mail(settings: Settings, cells: &[u32], text: &mut [u8]) -> Result<usize, Refusal>
     ensures few_bytes { FewBytes result }
     ensures text_after { mailed result text.new ≡ write_mail settings cells.now text.old }
 {
     if cells.len() != 132 {
-        return refuse(1);
+        return memory::refused(1);
     }
     if !settings::is_good(settings) {
-        return refuse(2);
+        return memory::refused(2);
     }
     let mut row = [0u8; 1725];
     let count = put_row(&mut row, cells, settings::shown_columns(settings) as usize);
     if text.len() < count {
-        return refuse(23);
+        return memory::refused(23);
     }
     put(text, 0, &row[..count]);
-    Written::Text(count)
+    Ok(count)
 }
 
 // Is the byte a character that the text can have?
 pub fn is_character(code: u8) -> bool
     ensures { result ≡ is_character code }
 {
-    (0x20 <= code) & (code <= 0x7e)
+    matches!(code, 0x20..=0x7e)
 }
 
 // What stands before a cell with `marks` where the one before has the marks `before`, at the start of `out`; its length. What the bytes of
@@ -52,12 +45,6 @@ pub fn change(before: u8, marks: u8, out: &mut [u8; 12]) -> usize
     put_change(out, 0, before, marks)
 }
 
-fn refuse(number: u8) -> Written
-    ensures { result ≡ refuse number }
-{
-    Written::Refused(memory::refusal_of(0, memory::fault_of(number)))
-}
-
 // The text of the first `columns` cells. A cell has at most 13 bytes, with its change of marks.
 fn put_row(out: &mut [u8; 1725], cells: &[u32], columns: usize) -> usize
     requires { (columns ≤ 132) × (columns ≤ length cells.now) }
@@ -65,11 +52,9 @@ fn put_row(out: &mut [u8; 1725], cells: &[u32], columns: usize) -> usize
 {
     let mut at = put(out, 0, b"\x1b[0m");
     let mut before: u8 = 0;
-    let mut i = 0;
-    while i < columns {
-        at = put_cell(out, at, before, cells[i]);
-        before = marks_of(cells[i]);
-        i += 1;
+    for cell in &cells[..columns] {
+        at = put_cell(out, at, before, *cell);
+        before = marks_of(*cell);
     }
     put_end(out, at)
 }
@@ -128,12 +113,9 @@ fn put(out: &mut [u8], at: usize, text: &[u8]) -> usize
     requires { at + length text.now ≤ length out.old }
     ensures { Put at text.now out.old result out.new }
 {
-    let mut i = 0;
-    while i < text.len() {
-        out[at + i] = text[i];
-        i += 1;
-    }
-    at + i
+    let end = at + text.len();
+    out[at..end].copy_from_slice(text);
+    end
 }
 
 // The character of a cell, or `?`.

@@ -1,11 +1,8 @@
 -- What a call on a row's text leaves in the slices that it was lent, and its status: 0 where it is accepted, else the refusal's number.
-use Rattle.std.specs.Prelude.{ℕ, List, [], ◌∷◌, eqb}
+use Rattle.std.specs.Prelude.{ℕ, List, [], ◌∷◌, eqb, Result, Ok, Err}
 use Rattle.memory.specs.Word.{when◌then◌else◌}
-use Rattle.mail.specs.declared.Written.{Written}
-use Rattle.mail.specs.declared.Written.TheVariants as Write
+use Rattle.memory.specs.declared.Refusal.{Refusal}
 use Rattle.mail.specs.Write.{Mailed}
-use Rattle.mail_reader.specs.declared.ReadAnswer.{ReadAnswer}
-use Rattle.mail_reader.specs.declared.ReadAnswer.TheVariants as Back
 use Rattle.mail_reader.specs.Read.{ReadBack}
 
 pub record Lent : Type 0 where
@@ -17,17 +14,17 @@ abbrev pub lent : ℕ → List ℕ → List ℕ → Lent
 lent status buffer answer = record { status = status; buffer = buffer; answer = answer }
 
 -- the writer: the text's length. A refusal writes nothing
-abbrev pub write_numbers : List ℕ → List ℕ → Written → Lent
-write_numbers answer buffer (Write.Text n) = lent 0 buffer (n ∷ [])
-write_numbers answer buffer (Write.Refused r) = lent r.number buffer answer
+abbrev pub write_numbers : List ℕ → List ℕ → Result ℕ Refusal → Lent
+write_numbers answer buffer (Ok n) = lent 0 buffer (n ∷ [])
+write_numbers answer buffer (Err r) = lent r.number buffer answer
 
 abbrev pub after_write : List ℕ → Mailed → Lent
 after_write answer m = write_numbers answer m.buffer m.answer
 
 -- the reader: the count of cells, or the offset that refusal 24 tells. 23 writes nothing
-abbrev pub read_numbers : List ℕ → List ℕ → ReadAnswer → Lent
-read_numbers answer buffer (Back.Read n) = lent 0 buffer (n ∷ [])
-read_numbers answer buffer (Back.Refused r) = lent r.number buffer (when eqb r.number 24 then r.address ∷ [] else answer)
+abbrev pub read_numbers : List ℕ → List ℕ → Result ℕ Refusal → Lent
+read_numbers answer buffer (Ok n) = lent 0 buffer (n ∷ [])
+read_numbers answer buffer (Err r) = lent r.number buffer (when eqb r.number 24 then r.address ∷ [] else answer)
 
 abbrev pub after_read : List ℕ → ReadBack → Lent
 after_read answer m = read_numbers answer m.buffer m.answer

@@ -1,20 +1,15 @@
 -- The longest beginning that two texts share.
-use mathlib.Core.Path.{◌≡◌, refl}
+use mathlib.Core.Path.{◌≡◌}
 use mathlib.Core.List.{List, [], ◌∷◌}
-use Prim.Native.Nat.{ℕ, suc, ◌+◌, ◌<◌, ◌≤◌}
+use Prim.Native.Nat.{ℕ, suc, ◌+◌, ◌<◌, ◌≤◌, min}
 use native.Mathlib.Omega.{arith}
 use native.Mathlib.Numerals.{add-one}
-use lib.ListN.{length, get_or, drop, drop_of_length-le}
+use lib.ListN.{length, get_or, drop, length-drop}
 use lib.Seq.{drop-cons}
 use lib.Dec.{eqb}
 use borrow.Author.Tests.{eq-eqb, ne_eqb}
 use Rattle.memory.proofs.ReadBounds.{if-cases}
 use Rattle.mail_reader.specs.Reader.{common}
-
-pub common-none : (s : List ℕ) → common s [] ≡ 0
-unfolding common
-common-none [] = refl
-common-none (a ∷ s) = refl
 
 pub common-left : (s t : List ℕ) → common s t ≤ length s
 unfolding common
@@ -39,9 +34,5 @@ module _ (s t : List ℕ) (i : ℕ) where
   unfolding common
   other_byte h g e = rw (drop-cons s i 0 h, drop-cons t i 0 g, ne_eqb (get_or s i 0) (get_or t i 0) e)
 
-  pub left-ends : length s ≤ i → common (drop i s) (drop i t) ≡ 0
-  unfolding common
-  left-ends h = rw (drop_of_length-le s h)
-
-  pub right-ends : length t ≤ i → common (drop i s) (drop i t) ≡ 0
-  right-ends h = rw (drop_of_length-le t h) (common-none (drop i s))
+  pub one-ends : min (length s) (length t) ≤ i → common (drop i s) (drop i t) ≡ 0
+  one-ends h = omega (arith, common-left (drop i s) (drop i t), common-right (drop i s) (drop i t), length-drop i s, length-drop i t)

@@ -7,8 +7,8 @@ use lib.ListN.{drop}
 use borrow.Author.Tests.{ne_eqb}
 use Rattle.mail.specs.Mail.{character_of, marks_of, change, row_end, cells_text}
 use Rattle.mail.specs.Texts.{IsCell}
-use Rattle.mail_reader.specs.declared.Next.{Next}
-use Rattle.mail_reader.specs.declared.Next.TheVariants.{Cell, Stops}
+use Rattle.std.proofs.Common.{Result, Ok, Err}
+use Rattle.mail_reader.specs.declared.CellRead.{CellRead}
 use Rattle.mail_reader.specs.Reader.{common, next_cell, row, ended, turn, cells_read}
 use Rattle.mail_texts.proofs.Unique.{same-cell, no_end}
 use Rattle.mail_texts.proofs.NextLaws.{Says, says}
@@ -23,21 +23,21 @@ unfolding cells_read
 at-end zero count before h = end_read count 0 h
 at-end (suc left) count before h = by (next_cell 16 before row_end) (says before row_end 16)
   where
-    by : (x : Next) → Says before row_end 16 x → turn (cells_read left (suc count)) count row_end x ≡ row []
-    by (Cell c n) f = absurd (no_end before f.marks f.character (drop n row_end) [] f.below f.is_one (sym f.text))
-    by (Stops i) s = end_read count i h
+    by : (x : Result CellRead ℕ) → Says before row_end 16 x → turn (cells_read left (suc count)) count row_end x ≡ row []
+    by (Ok r) f = absurd (no_end before f.marks f.character (drop r.bytes row_end) [] f.below f.is_one (sym f.text))
+    by (Err i) s = end_read count i h
 
 -- the cell that was found is the one that was written
 module _ (left count before c : ℕ) (cs : List ℕ) (k : IsCell c) where
   abbrev whole : List ℕ
   whole = change before (marks_of c) ++ character_of c ∷ cells_text (marks_of c) cs
 
-  pub cell-back : (cells_read left (suc count) (marks_of c) (cells_text (marks_of c) cs) ≡ row cs) → (x : Next) → Says before whole 16 x
+  pub cell-back : (cells_read left (suc count) (marks_of c) (cells_text (marks_of c) cs) ≡ row cs) → (x : Result CellRead ℕ) → Says before whole 16 x
       → turn (cells_read left (suc count)) count whole x ≡ row (c ∷ cs)
-  cell-back next (Stops i) s = absurd (s.never (marks_of c) k.marks (character_of c) k.character (cells_text (marks_of c) cs) refl)
-  cell-back next (Cell d n) f =
-      let s = same-cell before f.marks (marks_of c) f.character (character_of c) (drop n whole) (cells_text (marks_of c) cs) f.below k.marks f.is_one k.character (sym f.text) in
-      let e : d ≡ c = f.packed ∙ rw (s.marks, s.character) (omega arith) in
+  cell-back next (Err i) s = absurd (s.never (marks_of c) k.marks (character_of c) k.character (cells_text (marks_of c) cs) refl)
+  cell-back next (Ok r) f =
+      let s = same-cell before f.marks (marks_of c) f.character (character_of c) (drop r.bytes whole) (cells_text (marks_of c) cs) f.below k.marks f.is_one k.character (sym f.text) in
+      let e : r.cell ≡ c = f.packed ∙ rw (s.marks, s.character) (omega arith) in
       rw (e, s.rest, next)
 
 pub cells-back : (left count before : ℕ) (cs : List ℕ) → Fits left count cs → cells_read left count before (cells_text before cs) ≡ row cs

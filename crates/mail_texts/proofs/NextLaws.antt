@@ -12,8 +12,8 @@ use lib.Dec.{eqb}
 use borrow.Author.Tests.{eqb-true, eqb-false, eq-eqb}
 use Rattle.memory.proofs.ReadBounds.{if-cases, both}
 use Rattle.mail.specs.Mail.{is_character, marked, change}
-use Rattle.mail_reader.specs.declared.Next.{Next}
-use Rattle.mail_reader.specs.declared.Next.TheVariants.{Cell, Stops}
+use Rattle.std.proofs.Common.{Result, Ok, Err}
+use Rattle.mail_reader.specs.declared.CellRead.{CellRead}
 use Rattle.mail_reader.specs.Reader.{common, tried, better, next_cell}
 use Rattle.mail_reader.proofs.CommonLaws.{common-left}
 use Rattle.mail_texts.proofs.SharedLaws.{common-append, common-other, shares-all, common-after}
@@ -35,14 +35,14 @@ module _ (before : ℕ) (t : List ℕ) where
     pub reached : 0 < i → (m : ℕ) × (m < k) × (i ≤ common (change before m) t)
     pub never : (m : ℕ) → m < k → (c : ℕ) → is_character c ≡ true → (v : List ℕ) → t ≡ change before m ++ c ∷ v → ⊥
 
-  abbrev pub Says : ℕ → Next → Type 0
-  Says k (Cell c n) = Found k c n
-  Says k (Stops i) = Stopped k i
+  abbrev pub Says : ℕ → Result CellRead ℕ → Type 0
+  Says k (Ok r) = Found k r.cell r.bytes
+  Says k (Err i) = Stopped k i
 
   -- a trial with the marks m
-  abbrev TriedSays : ℕ → Next → Type 0
-  TriedSays m (Cell c n) = Found (suc m) c n
-  TriedSays m (Stops i) =
+  abbrev TriedSays : ℕ → Result CellRead ℕ → Type 0
+  TriedSays m (Ok r) = Found (suc m) r.cell r.bytes
+  TriedSays m (Err i) =
       (i ≡ common (change before m) t)
       × ((c : ℕ) → is_character c ≡ true → (v : List ℕ) → common (change before m ++ c ∷ v) t ≤ i)
       × ((c : ℕ) → is_character c ≡ true → (v : List ℕ) → t ≡ change before m ++ c ∷ v → ⊥)
@@ -122,9 +122,9 @@ module _ (before : ℕ) (t : List ℕ) where
     tried-says =
         if-cases (TriedSays m) (eqb (common fixed t) (length fixed) && is_character (get_or t (length fixed) 0)) found (λ e. (refl, no_more e, never e))
 
-  combine : (k : ℕ) (x y : Next) → TriedSays k x → Says k y → Says (suc k) (better x y)
-  combine k (Cell c n) y p q = p
-  combine k (Stops i) (Cell c n) p q = record {
+  combine : (k : ℕ) (x y : Result CellRead ℕ) → TriedSays k x → Says k y → Says (suc k) (better x y)
+  combine k (Ok r) y p q = p
+  combine k (Err i) (Ok r) p q = record {
     marks = q.marks;
     character = q.character;
     below = omega (arith, q.below);
@@ -133,7 +133,7 @@ module _ (before : ℕ) (t : List ℕ) where
     long = q.long;
     text = q.text;
   }
-  combine k (Stops i) (Stops j) p q = record {
+  combine k (Err i) (Err j) p q = record {
     least = λ m l c e v. least m l c e v (ℕ_discrete m k);
     reached = λ h. reached h (dec_le j i);
     never = λ m l c e v. never m l c e v (ℕ_discrete m k);

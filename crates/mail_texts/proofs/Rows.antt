@@ -13,8 +13,8 @@ use Rattle.memory.proofs.ReadBounds.{if-cases, both}
 use Rattle.mail.specs.Mail.{marked, character_of, marks_of, change, row_end, cells_text}
 use Rattle.mail.specs.Texts.{Each, IsCell}
 use Rattle.mail.proofs.TextLaws.{character-range, parts}
-use Rattle.mail_reader.specs.declared.Next.{Next}
-use Rattle.mail_reader.specs.declared.Next.TheVariants.{Cell, Stops}
+use Rattle.std.proofs.Common.{Result, Ok, Err}
+use Rattle.mail_reader.specs.declared.CellRead.{CellRead}
 use Rattle.mail_reader.specs.Reader.{common, next_cell, Outcome, row, stops, joined, ended, turn, cells_read}
 use Rattle.mail_texts.proofs.Unique.{same-cell, no_end}
 use Rattle.mail_texts.proofs.SharedLaws.{common-append, begins-with, shares-all, common-grows}
@@ -196,8 +196,8 @@ unfolding cells_read
 cells-read zero count before t h = ends 0 count before 0 t h (λ c cs f. absurd (omega (arith, f.most))) (λ e. refl) (λ l. absurd (omega arith))
 cells-read (suc left) count before t h = by (next_cell 16 before t) (says before t 16) (λ m u. cells-read left (suc count) m u (omega arith))
   where
-    by : (x : Next) → Says before t 16 x → ((m : ℕ) (u : List ℕ) → CellsRead left (suc count) m u (cells_read left (suc count) m u))
+    by : (x : Result CellRead ℕ) → Says before t 16 x → ((m : ℕ) (u : List ℕ) → CellsRead left (suc count) m u (cells_read left (suc count) m u))
         → CellsRead (suc left) count before t (turn (cells_read left (suc count)) count t x)
-    by (Cell c n) f next = then-cell left count before t c n f (cells_read left (suc count) (marks_of c) (drop n t)) (next (marks_of c) (drop n t))
-    by (Stops i) s next =
+    by (Ok r) f next = then-cell left count before t r.cell r.bytes f (cells_read left (suc count) (marks_of r.cell) (drop r.bytes t)) (next (marks_of r.cell) (drop r.bytes t))
+    by (Err i) s next =
         ends (suc left) count before i t h (most-shared left count before i t s) (λ e. absurd (omega arith)) (λ _. some-shared left count before i t s)

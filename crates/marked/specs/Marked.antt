@@ -1,31 +1,25 @@
 -- Document 01, "Marked examples": P1 to P12 and sheet S, with "Misreadings to shut out" and rows of states that no start gives,
 -- as one computed statement.
-use Rattle.std.specs.Prelude.{ℕ, ◌≡◌, refl, Bool, true, false, ◌&&◌, not, List, [], ◌∷◌, ◌++◌, replicate, take, drop, eqb}
+use Rattle.std.specs.Prelude.{ℕ, ◌≡◌, refl, Bool, true, false, ◌&&◌, not, List, [], ◌∷◌, ◌++◌, replicate, take, drop, eqb, Option, Some, None, Result, Ok, Err}
 use Rattle.std.specs.Int.Count.{ones, ones_in}
 use Rattle.memory.specs.Reading.{◌>>=◌, read_as, each, run_from}
 use Rattle.memory.specs.Address.{to, pointer, next_word, ahead, words}
+use Rattle.memory.specs.declared.Refusal.{Refusal}
 use Rattle.settings.specs.declared.Edition.{Edition}
 use Rattle.settings.specs.declared.Edition.TheVariants.{Am8052, Z8052}
 use Rattle.settings.specs.declared.Interlace.{Interlace}
 use Rattle.settings.specs.declared.Interlace.TheVariants.{Progressive, RepeatField, Video}
 use Rattle.settings.specs.declared.Settings.{Settings}
 use Rattle.settings.specs.declared.Timing.{Timing}
-use Rattle.settings.specs.declared.SheetAnswer.{SheetAnswer}
-use Rattle.settings.specs.declared.SheetAnswer.TheVariants as Sheet
 use Rattle.settings.specs.Good.{good, check_settings}
 use Rattle.settings.specs.Sheet.{sheet_of, sheet_call}
 use Rattle.settings.specs.AfterEnable.{field_at, parts_of}
 use Rattle.settings.specs.Timing.{clocks, timing, lines_for_rows, halved, invoking_codes}
-use Rattle.windows.specs.declared.WindowInHand.{WindowInHand}
-use Rattle.windows.specs.declared.WindowInHand.TheVariants.{Absent, Present}
+use Rattle.settings.specs.declared.Sheet.{Sheet}
 use Rattle.blocks.specs.Main.{main_block, main_block_at}
 use Rattle.blocks.specs.RowBlock.{segment_of, segments_at, segment_roles, rest_of_block, block_at, row_block_at, window_row_at, format_of, redefined}
 use Rattle.windows.specs.Window as W
 use Rattle.state.specs.declared.State.{State}
-use Rattle.start.specs.declared.StartAnswer.{StartAnswer}
-use Rattle.start.specs.declared.StartAnswer.TheVariants as Start
-use Rattle.row.specs.declared.RowAnswer.{RowAnswer}
-use Rattle.row.specs.declared.RowAnswer.TheVariants as Answer
 use Rattle.state.specs.State as S
 use Rattle.codes.specs.Attribute.{invokes, source_number, window_number, cell}
 use Rattle.layout.specs.Layout.{width, total, all_fit, boundary, edges_fit, covered, on_side, segments_on}
@@ -33,6 +27,7 @@ use Rattle.layout.specs.Overlay.{window_row, overlaid}
 use Rattle.background.specs.Background.{background_block, background_row}
 use Rattle.plan.specs.Plan.{next_fields, plan}
 use Rattle.codes.specs.Codes.{taking, put, character, examine, word_codes, codes}
+use Rattle.windows.specs.declared.Window.{Window}
 use Rattle.cells.specs.Cells.{filled, fill_by_word, fill_to, segment, segments_to, row_cells}
 use Rattle.row.specs.Row.{Called, row, with_cursor, row_call}
 use Rattle.start.specs.Top.{top_block}
@@ -41,6 +36,8 @@ use Rattle.frame.specs.Step.{begin, step}
 use Rattle.frame.specs.Frame.{within, rest, frame, handed_on}
 use Rattle.joining.specs.declared.Part.{Part}
 use Rattle.joining.specs.declared.Part.TheVariants.{Keep, Set, Refuse}
+use Rattle.start.specs.declared.Started.{Started}
+use Rattle.row.specs.declared.DrawnRow.{DrawnRow}
 use Rattle.effect.specs.Effect.{outcome_for, effect_call}
 
 -- ---- tests ----
@@ -55,9 +52,9 @@ every [] = true
 every (b ∷ bs) = b && every bs
 
 -- an accepted row's number, lines, row attributes, CURS, CURE, words and cells; a refused row's number, row and addresses
-shown_as : RowAnswer → List ℕ → List ℕ
-shown_as (Answer.Accepted r) cs = r.number ∷ r.lines ∷ r.format.attributes ∷ r.format.curs ∷ r.format.cure ∷ r.words ∷ cs
-shown_as (Answer.Refused r) cs = r.number ∷ r.row ∷ r.address ∷ r.from ∷ []
+shown_as : Result DrawnRow Refusal → List ℕ → List ℕ
+shown_as (Ok r) cs = r.number ∷ r.lines ∷ r.format.attributes ∷ r.format.curs ∷ r.format.cure ∷ r.words ∷ cs
+shown_as (Err r) cs = r.number ∷ r.row ∷ r.address ∷ r.from ∷ []
 
 shown : Called → List ℕ
 shown c = shown_as c.answer c.buffer
@@ -77,13 +74,13 @@ counts : Timing → List ℕ
 counts t = t.sync ∷ t.back ∷ t.active ∷ t.front ∷ t.field ∷ []
 
 -- the vertical counts of field n after enable, by a settings sheet, and its sync fall to blank rise; a refused sheet's number
-times : ℕ → SheetAnswer → List ℕ
-times n (Sheet.Given s) = counts (parts_of s (field_at n))
-times n (Sheet.Refused r) = r.number ∷ []
+times : ℕ → Result Sheet Refusal → List ℕ
+times n (Ok s) = counts (parts_of s (field_at n))
+times n (Err r) = r.number ∷ []
 
-rises : ℕ → SheetAnswer → List ℕ
-rises n (Sheet.Given s) = (parts_of s (field_at n)).rise ∷ []
-rises n (Sheet.Refused r) = []
+rises : ℕ → Result Sheet Refusal → List ℕ
+rises n (Ok s) = (parts_of s (field_at n)).rise ∷ []
+rises n (Err r) = []
 
 -- ---- settings, states and memory ----
 memory_settings : Bool → Bool → Bool → ℕ → ℕ → Settings
@@ -123,7 +120,7 @@ memory_s =
     ++ (0x4180 ∷ 0x4281 ∷ []) ++ replicate 6 0 ++ (0x2000 ∷ 0x8002 ∷ []) ++ replicate 6 0
 
 -- a state with these lines left, no fill flag, and the next row block at 20
-state_at : ℕ → ℕ → ℕ → ℕ → WindowInHand → State
+state_at : ℕ → ℕ → ℕ → ℕ → Option Window → State
 state_at latch attributes left row w = S.state_of latch (record {
   row = row;
   left = left;
@@ -134,20 +131,20 @@ state_at latch attributes left row w = S.state_of latch (record {
   window = w;
 })
 
-at : ℕ → WindowInHand → State
+at : ℕ → Option Window → State
 at row w = state_at 0 0 8 row w
 
-state_of_start : StartAnswer → State
-state_of_start (Start.Accepted r) = r.state
-state_of_start (Start.Refused r) = at 0 Absent
+state_of_start : Result Started Refusal → State
+state_of_start (Ok r) = r.state
+state_of_start (Err r) = at 0 None
 
-words_of_start : StartAnswer → ℕ
-words_of_start (Start.Accepted r) = r.words
-words_of_start (Start.Refused r) = 0
+words_of_start : Result Started Refusal → ℕ
+words_of_start (Ok r) = r.words
+words_of_start (Err r) = 0
 
-state_after : RowAnswer → State
-state_after (Answer.Accepted r) = r.next
-state_after (Answer.Refused r) = at 0 Absent
+state_after : Result DrawnRow Refusal → State
+state_after (Ok r) = r.next
+state_after (Err r) = at 0 None
 
 buffer : List ℕ
 buffer = replicate 132 0
@@ -170,7 +167,7 @@ row1 : Called
 row1 = row_call sheet_s memory_s (state_after row0.answer) buffer
 
 -- a row of S from a state that no start gives: latch 0002, row attributes 3FF
-odd_row : ℕ → ℕ → WindowInHand → List ℕ → Called
+odd_row : ℕ → ℕ → Option Window → List ℕ → Called
 odd_row left row w cells = row_call sheet_s memory_s (state_at 2 0x3FF left row w) cells
 
 padded : ℕ → List ℕ → List ℕ
@@ -234,21 +231,21 @@ twelve : List ℕ
 twelve = page 0 (0 ∷ 0 ∷ 0 ∷ 0 ∷ 0x303 ∷ 5 ∷ []) [] []
 
 -- a window of this number on the rows n..n, columns 0 to right, whose next row block and next block are at these addresses
-numbered : ℕ → ℕ → ℕ → ℕ → ℕ → WindowInHand
+numbered : ℕ → ℕ → ℕ → ℕ → ℕ → Option Window
 numbered number n right rows link =
-    Present (record { block = record { number = number; top = n; bottom = n; left = 0; right = right; link = to 0 link }; rows = to 0 rows })
+    Some (record { block = record { number = number; top = n; bottom = n; left = 0; right = right; link = to 0 link }; rows = to 0 rows })
 
 -- the first window, without segments
-window_on : ℕ → ℕ → ℕ → WindowInHand
+window_on : ℕ → ℕ → ℕ → Option Window
 window_on n right link = numbered 0 n right 0 link
 
 -- 02: row 3 in a window of columns 0 and 1 with this number, whose row block is the page's: one segment, the code 41
 window_row3 : ℕ → Called
 window_row3 number = row_call plain (page 0x20 (one 0x101) (0x4100 ∷ []) []) (at 3 (numbered number 3 1 0x20 0)) buffer
 
-in_hand : WindowInHand → List ℕ
-in_hand Absent = []
-in_hand (Present w) = w.block.number ∷ w.block.top ∷ w.block.bottom ∷ w.block.left ∷ w.block.right ∷ []
+in_hand : Option Window → List ℕ
+in_hand None = []
+in_hand (Some w) = w.block.number ∷ w.block.top ∷ w.block.bottom ∷ w.block.left ∷ w.block.right ∷ []
 
 -- the lines left after a row, and the window in hand
 next_shown : Called → List ℕ
@@ -278,9 +275,9 @@ tests =
     ∷ same (cells_from 0 4 (row_call sheet_s memory_s (state_of_start (start_call 0x8002 sheet_s memory_s)) buffer)) (0x100241 ∷ 0x500242 ∷ 0x100281 ∷ 0x220 ∷ [])
     ∷ eqb (handed_on 1 (frame 1 plain (two 33))) 1
     -- 02: segmented, S is 17 in a row and in both parts of an effect, with the state's row
-    ∷ same (shown (row_call segmented_s memory_s (at 5 Absent) buffer)) (17 ∷ 5 ∷ 0 ∷ 0 ∷ [])
-    ∷ same (part_shown (effect_call segmented_s memory_s (at 5 Absent).fields).effect.clear) (17 ∷ 5 ∷ 0 ∷ 0 ∷ [])
-    ∷ same (part_shown (effect_call segmented_s memory_s (at 5 Absent).fields).effect.set) (17 ∷ 5 ∷ 0 ∷ 0 ∷ [])
+    ∷ same (shown (row_call segmented_s memory_s (at 5 None) buffer)) (17 ∷ 5 ∷ 0 ∷ 0 ∷ [])
+    ∷ same (part_shown (effect_call segmented_s memory_s (at 5 None).fields).effect.clear) (17 ∷ 5 ∷ 0 ∷ 0 ∷ [])
+    ∷ same (part_shown (effect_call segmented_s memory_s (at 5 None).fields).effect.set) (17 ∷ 5 ∷ 0 ∷ 0 ∷ [])
     -- P7, in both fields
     ∷ same (times 0 (sheet_call sheet_s)) (2 ∷ 2 ∷ 32 ∷ 8 ∷ 44 ∷ []) ∷ same (times 1 (sheet_call sheet_s)) (2 ∷ 2 ∷ 32 ∷ 8 ∷ 44 ∷ [])
     -- P8, in both fields
@@ -294,7 +291,7 @@ tests =
     ∷ same (times 0 (sheet_call (timed Z8052 Video 0x8081 5))) (2 ∷ []) ∷ same (times 0 (sheet_call (timed Z8052 Progressive 0x8081 5))) (2 ∷ [])
     ∷ good (timed Am8052 Video 0x8081 5) ∷ good (timed Z8052 Video 0x8180 5)
     -- 02: an even HTD when interlaced is 2 in the second edition, in a row too; it is good in mode none and in the first
-    ∷ same (times 0 (sheet_call (timed Z8052 Video 0 4))) (2 ∷ []) ∷ same (shown (row_call (timed Z8052 RepeatField 0 4) memory_s (at 5 Absent) buffer)) (2 ∷ 5 ∷ 0 ∷ 0 ∷ [])
+    ∷ same (times 0 (sheet_call (timed Z8052 Video 0 4))) (2 ∷ []) ∷ same (shown (row_call (timed Z8052 RepeatField 0 4) memory_s (at 5 None) buffer)) (2 ∷ 5 ∷ 0 ∷ 0 ∷ [])
     ∷ good (timed Z8052 Progressive 0 4) ∷ good (timed Am8052 Video 0 4)
     -- P9
     ∷ same (cells_from 0 2 (first_row plain nine)) (0x100041 ∷ 0x20 ∷ [])
@@ -326,11 +323,11 @@ tests =
     ∷ same (shown (odd_row 8 200 (window_on 2 3 0) buffer)) (200 ∷ 8 ∷ 0x3FF ∷ 0 ∷ 31 ∷ 12 ∷ 0x100241 ∷ 0x100242 ∷ 0x100281 ∷ replicate 129 0x220)
     ∷ same (next_shown (odd_row 8 200 (window_on 2 3 0) buffer)) (0 ∷ [])
     -- the last line, in the last row that a state can have; one row further, row and lines left sum to 4096
-    ∷ same (shown (odd_row 1 4094 Absent buffer)) (4094 ∷ 1 ∷ 0x3FF ∷ 0 ∷ 31 ∷ 12 ∷ 0x100241 ∷ 0x100242 ∷ 0x100281 ∷ replicate 129 0x220)
-    ∷ same (next_shown (odd_row 1 4094 Absent buffer)) (0 ∷ [])
-    ∷ same (shown (odd_row 1 4095 Absent buffer)) (3 ∷ 4095 ∷ 0 ∷ 0 ∷ [])
+    ∷ same (shown (odd_row 1 4094 None buffer)) (4094 ∷ 1 ∷ 0x3FF ∷ 0 ∷ 31 ∷ 12 ∷ 0x100241 ∷ 0x100242 ∷ 0x100281 ∷ replicate 129 0x220)
+    ∷ same (next_shown (odd_row 1 4094 None buffer)) (0 ∷ [])
+    ∷ same (shown (odd_row 1 4095 None buffer)) (3 ∷ 4095 ∷ 0 ∷ 0 ∷ [])
     -- .. and with no line left there it is 4, as anywhere: 02 has withdrawn 5
-    ∷ same (shown (odd_row 0 4095 Absent buffer)) (4 ∷ 4095 ∷ 0 ∷ 0 ∷ [])
+    ∷ same (shown (odd_row 0 4095 None buffer)) (4 ∷ 4095 ∷ 0 ∷ 0 ∷ [])
     -- 02: a refusal 7 tells where the pointer in use begins. The row block is at 20: a redefinition pointer begins at 26, as a first code
     -- pointer does where there is none; after one, the second segment's attribute pointer at 38. Both parts of an effect tell it too
     ∷ same (shown (first_row plain (page 0x20 (0 ∷ 0 ∷ 0x8000 ∷ 0 ∷ 0x8000 ∷ []) [] []))) (7 ∷ 0 ∷ 0x8000 ∷ 0x26 ∷ [])
@@ -338,7 +335,7 @@ tests =
     ∷ same (shown (first_row plain listless)) (7 ∷ 0 ∷ 0x8000 ∷ 0x38 ∷ [])
     ∷ same (clear_part plain listless) (7 ∷ 0 ∷ 0x8000 ∷ 0x38 ∷ []) ∷ same (set_part plain listless) (7 ∷ 0 ∷ 0x8000 ∷ 0x38 ∷ [])
     -- a row buffer of 131 cells
-    ∷ same (shown (odd_row 8 0 Absent (replicate 131 0))) (1 ∷ 0 ∷ 0 ∷ 0 ∷ [])
+    ∷ same (shown (odd_row 8 0 None (replicate 131 0))) (1 ∷ 0 ∷ 0 ∷ 0 ∷ [])
     ∷ []
 
 pub marked : every tests ≡ true

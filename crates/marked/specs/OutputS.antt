@@ -24,7 +24,8 @@ use Rattle.script.specs.Records.{switched, registered, accepted, settings_after,
 use Rattle.script.specs.Script.{unset, number_from, records, script}
 use Rattle.script.specs.SheetS.{register, words as word_records, records_s, script_s}
 use Rattle.lines.specs.Lines.{text, digits, fewest, row_line, more_cells, cell_line, end_line, refusal_line, script_line}
-use Rattle.text.specs.Text.{rows_text, frame_text, output}
+use Rattle.text.specs.Form.{rows_text, frame_text}
+use Rattle.text.specs.Text.{output}
 
 -- "Whole output"; without the draw; and where row 0 links to the word past memory: "A refusal prints .. after the rows already drawn,
 -- and ends the output with no end line."

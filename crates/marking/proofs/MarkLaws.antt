@@ -1,5 +1,6 @@
 -- The laws by which a proof follows the marking of a word: one for each way through.
-use mathlib.Core.Path.{◌≡◌, refl, ap, ◌∙◌}
+use Rattle.std.proofs.Common.{Result, Ok}
+use mathlib.Core.Path.{◌≡◌, refl, ap, sym, ◌∙◌}
 use mathlib.Core.List.{List, [], ◌∷◌}
 use mathlib.Core.Bool.{Bool, true, false, ◌&&◌, not}
 use Prim.Native.Nat.{ℕ, zero, suc, ◌*◌, ◌/◌, ◌%◌, ◌<◌, ◌≤◌}
@@ -8,12 +9,34 @@ use lib.ListN.{length, get_or, set, drop}
 use lib.Dec.{eqb}
 use borrow.Author.Tests.{lt-ltb, le-ltb}
 use Rattle.memory.specs.declared.Pointer.{Pointer}
-use Rattle.memory.specs.Reading.{Role, Ask, ask, asking, in_role, one_pointer, done, absent}
+use Rattle.memory.specs.declared.Fault.{Fault}
+use Rattle.memory.specs.Reading.{Role, Ask, Reading, ask, asking, in_role, one_pointer, done, absent}
 use Rattle.windows.specs.Window.{two_pointers}
 use Rattle.blocks.specs.RowBlock.{segment_roles}
 use Rattle.converter.specs.Walk.{mark, read_on, over_page_end, shared, shared_word, went, halted, walk}
 use Rattle.marking.specs.declared.Shape.TheVariants.{Plain, OnePointer, TwoPointers, Segments}
-use Rattle.marking.specs.Answers.{role_at, pointer_mark, mark_at, Shaped}
+use Rattle.marking.specs.declared.marked.Marked.{Marked}
+use Rattle.marking.specs.Answers.{Kept, passed, trail, trailed, Trails, role_at, pointer_mark, mark_at, Shaped}
+
+-- what is kept: where nothing is done, and by one call after another
+pub kept-still : (m : Marked) → Kept m m
+kept-still m = record { mem = refl; marks = refl }
+
+pub kept-on : {a b c : Marked} → Kept a b → Kept b c → Kept a c
+kept-on k l = record { mem = l.mem ∙ k.mem; marks = l.marks ∙ k.marks }
+
+-- what is marked: nothing; what another reading asks for, whose trail is the same; that, and then what the rest of a reading asks for
+module _ {A : Type 0} {held : ℕ} {q : Reading A} where
+  pub trails-still : (m : Marked) → trail held m.mem.now m.marks.now q ≡ passed m.marks.now → Trails (Ok tt) m m held q
+  trails-still m e = record { kept = kept-still m; marked = sym e }
+
+  pub trails-so : {B : Type 0} {r : Result (Unit {0}) Fault} {a b : Marked} {p : Reading B} → Trails r a b held p
+      → (trail held a.mem.now a.marks.now p ≡ trailed r b.marks.now → trail held a.mem.now a.marks.now q ≡ trailed r b.marks.now) → Trails r a b held q
+  trails-so t f = record { kept = t.kept; marked = sym (f (sym t.marked)) }
+
+  pub trails-on : {B C : Type 0} {r : Result (Unit {0}) Fault} {a b c : Marked} {p : Reading B} {k : Reading C} → Trails (Ok tt) a b held p → Trails r b c held k
+      → (trail held a.mem.now a.marks.now p ≡ passed b.marks.now → trail held a.mem.now a.marks.now q ≡ trail held a.mem.now b.marks.now k) → Trails r a c held q
+  trails-on s t f = record { kept = kept-on s.kept t.kept; marked = rw s.kept.mem at t.marked ∙ sym (f (sym s.marked)) }
 
 module _ (held : ℕ) (m marks : List ℕ) (p : Pointer) (k : Role) (role : ℕ) (e : mark k ≡ role) where
   abbrev q : Ask

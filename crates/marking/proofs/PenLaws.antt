@@ -1,17 +1,14 @@
 -- What is known of a drawing's walk by its pen, and how such walks follow one another, one word or one reading after the other.
 use mathlib.Core.Path.{◌≡◌, refl, ap, sym, ◌∙◌}
 use mathlib.Core.List.{List}
-use Prim.Native.Nat.{ℕ, ◌≤◌}
-use native.Mathlib.Omega.{arith}
+use Prim.Native.Nat.{ℕ}
 use Rattle.memory.specs.declared.Fault.{Fault}
 use Rattle.memory.specs.Reading.{Ask, Reading, done, ask, ◌>>=◌}
 use Rattle.codes.specs.declared.Pen.{Pen}
 use Rattle.codes.specs.Codes.{Drawing, drawing}
 use Rattle.converter.specs.Walk.{Walked, went, halted, walk}
 use Rattle.converter.proofs.WalkLaws.{step_went, step-halted}
-use Rattle.marking.specs.declared.PenWalked.{PenWalked}
-use Rattle.marking.specs.declared.PenWalked.TheVariants as Pens
-use Rattle.marking.specs.Answers.{pen_of, UpTo}
+use Rattle.marking.specs.Answers.{pen_of}
 
 -- one word, and what comes after it
 module _ {A : Type 0} (m marks : List ℕ) (q : Ask) (f : ℕ → Reading A) where
@@ -34,7 +31,7 @@ as_is {A} m marks p = go (walk 0 m marks p) refl
 
 pub pen-halted : (o : Walked Drawing) {x : Fault} → halted x ≡ pen_of o → o ≡ halted x
 pen-halted (went marks d) e = cc
-pen-halted (halted y) {x} e = let same : x ≡ y = cc in ap halted (sym same)
+pen-halted (halted y) e = cc
 
 -- the drawing whose pen is known
 pub record From (o : Walked Drawing) (marks : List ℕ) (p : Pen) : Type 0 where
@@ -46,7 +43,7 @@ pen-went (went marks₁ d) {marks} {p} e =
     let list : marks ≡ marks₁ = cc in
     let pen : p ≡ d.pen = cc in
     record { cells = d.cells; is = rw (list, pen) }
-pen-went (halted y) e = let q : ◌≡◌ {A = ℕ} 0 1 = cc in absurd (omega arith)
+pen-went (halted y) e = cc
 
 module _ (m marks : List ℕ) (p : Reading Drawing) (k : Drawing → Reading Drawing) where
   pub then-halted : {x : Fault} → halted x ≡ pen_of (walk 0 m marks p) → halted x ≡ pen_of (walk 0 m marks (p >>= k))
@@ -57,8 +54,3 @@ module _ (m marks : List ℕ) (p : Reading Drawing) (k : Drawing → Reading Dra
   then-went e f =
       let d = pen-went (walk 0 m marks p) e in
       f d.cells ∙ sym (ap pen_of (step_went 0 m marks p k d.is))
-
--- a column further on is a bound as well
-pub up_more : (r : PenWalked) {a b : ℕ} → a ≤ b → UpTo a r → UpTo b r
-up_more (Pens.Went p) l h = omega arith
-up_more (Pens.Halted x) l h = tt

@@ -1,70 +1,64 @@
 // Words, and the words of a block, marked as they are met.
-ghost use Rattle.std.specs.Prelude.{◌≡◌, ◌&&◌, not, List, ◌/◌, length, eqb};
+ghost use Rattle.std.specs.Prelude.{◌≡◌, ◌&&◌, not, List, ◌/◌, eqb};
 ghost use Rattle.memory.specs.Reading.{Role, ask, asking, in_role, done, read_as};
 ghost use Rattle.memory.specs.Address.{page, address_of, words};
 ghost use Rattle.converter.specs.Walk.{mark, word_of, points_at, read_on, walk};
-ghost use Rattle.marking.specs.Answers.{word_walked, trail, trailed, pointer_mark, mark_at, Shaped};
+ghost use Rattle.marking.specs.Answers.{Kept, word_walked, Trails, pointer_mark, mark_at, Shaped};
 
-use crate::{MarkedWord, Marking, Shape};
+use crate::Shape;
+use crate::marked::Marked;
 use memory::{Fault, Pointer};
 
-// The word that is due, marked: 1 as the first word of a pointer, 2 as the second, 3 as anything else. `held` is the address that the
-// register in use holds. Refusal 18, 7 or 19 marks nothing.
-pub fn mark_word(mem: &[u16], marks: &mut [u8], held: u32, p: Pointer, role: u8) -> MarkedWord
-    requires { length marks.old ≡ length mem.now }
-    ensures { (k : Role) → mark k ≡ role → word_walked result marks.new ≡ walk held mem.now marks.old (ask (in_role k (asking p)) done) }
-{
-    if is_read_on(mem, held, p) {
-        return MarkedWord::Halted(over_page_end(p.address));
-    }
-    let i = (p.address / 2) as usize;
-    if i < mem.len() {
-        if is_shared(marks[i], role) {
-            MarkedWord::Halted(shared_word(p.address))
-        } else {
-            marks[i] = role;
-            MarkedWord::Word(mem[i])
+impl Marked<'_> {
+    // The word that is due, marked: 1 as the first word of a pointer, 2 as the second, 3 as anything else. `held` is the address
+    // that the register in use holds. Refusal 18, 7 or 19 marks nothing.
+    pub fn mark_word(&mut self, held: u32, p: Pointer, role: u8) -> Result<u16, Fault>
+        ensures kept { Kept self.old self.new }
+        ensures walked { (k : Role) → mark k ≡ role → word_walked result self.new.marks.now ≡ walk held self.old.mem.now self.old.marks.now (ask (in_role k (asking p)) done) }
+    {
+        if is_read_on(self.mem, held, p) {
+            return Err(over_page_end(p.address));
         }
-    } else {
-        MarkedWord::Halted(memory::missing(p))
+        let Some(word) = memory::word_at(self.mem, p.address) else {
+            return Err(memory::missing(p));
+        };
+        let i = (p.address / 2) as usize;
+        if is_shared(self.marks[i], role) {
+            return Err(shared_word(p.address));
+        }
+        self.marks[i] = role;
+        Ok(word)
     }
-}
 
-// The `count` words of a block from a pointer on, marked as its shape says.
-pub fn mark_words(
-    mem: &[u16],
-    marks: &mut [u8],
-    linear: bool,
-    held: u32,
-    p: Pointer,
-    shape: Shape,
-    count: u32,
-) -> Marking
-    requires { length marks.old ≡ length mem.now }
-    ensures { (rs : List Role) → Shaped shape count rs → trailed result marks.new ≡ trail held mem.now marks.old (read_as rs (words linear count p)) }
-{
-    let mut at = p;
-    let mut i = 0;
-    while i < count {
-        match mark_word(mem, marks, held, at, mark_at(shape, i)) {
-            MarkedWord::Halted(fault) => return Marking::Halted(fault),
-            MarkedWord::Word(_) => {}
+    // The `count` words of a block from a pointer on, marked as its shape says.
+    pub fn mark_words(
+        &mut self,
+        linear: bool,
+        held: u32,
+        p: Pointer,
+        shape: Shape,
+        count: u32,
+    ) -> Result<(), Fault>
+        ensures { (rs : List Role) → Shaped shape count rs → Trails result self.old self.new held (read_as rs (words linear count p)) }
+    {
+        let mut at = p;
+        for i in 0..count {
+            self.mark_word(held, at, mark_at(shape, i))?;
+            at = memory::onward(linear, at);
         }
-        at = memory::onward(linear, at);
-        i += 1;
+        Ok(())
     }
-    Marking::Passed
 }
 
 // The word at an address, 0 outside memory.
 pub fn word_in(mem: &[u16], a: u32) -> u16
     ensures { result ≡ word_of mem.now a }
 {
-    let i = (a / 2) as usize;
-    if i < mem.len() { mem[i] } else { 0 }
+    memory::word_at(mem, a).unwrap_or(0)
 }
 
 // Is the word that is due reached by a step over a page end?
+#[tactic(auto, unfolding(converter::specs::Walk::read_on))]
 fn is_read_on(mem: &[u16], held: u32, p: Pointer) -> bool
     ensures { result ≡ read_on held mem.now p.address p.from }
 {
@@ -80,8 +74,7 @@ fn points_at(mem: &[u16], held: u32, from: u32) -> u32
     }
     let first = word_in(mem, from);
     let second = word_in(mem, memory::next_word(false, from));
-    let p = memory::pointer_of(false, from, first, second);
-    p.address
+    memory::pointer_of(false, from, first, second).address
 }
 
 // Refusal 18: the address of the last word of the page that an address begins.
@@ -114,6 +107,7 @@ fn shared_word(address: u32) -> Fault
 }
 
 // The mark of word `i` of a block.
+#[tactic(auto, unfolding(crate::specs::Answers::mark_at))]
 fn mark_at(shape: Shape, i: u32) -> u8
     ensures { result ≡ mark_at shape i }
 {

@@ -1,10 +1,24 @@
 -- The laws by which a proof follows a reading: what it comes to, one step after the other.
-use Rattle.std.proofs.Common.{◌≡◌, ℕ, ◌+◌, ◌/◌, Bool, true, false, ltb, List, [], ◌∷◌, ◌++◌, length, get_or, sym, refl, ap, ◌∙◌, add-zero, add_assoc, arith}
-use Rattle.memory.specs.declared.Fetch.TheVariants.{Word, Absent}
+use Rattle.std.proofs.Common.{◌≡◌, ℕ, ◌+◌, ◌/◌, Bool, true, false, ltb, List, [], ◌∷◌, ◌++◌, length, get_or, sym, refl, ap, ◌∙◌, add-zero, add_assoc, arith, Some, None, Result, Ok, Err, IsErrAnd}
 use Rattle.memory.specs.declared.Fault.{Fault}
 use Rattle.memory.specs.declared.Pointer.{Pointer}
+use Rattle.memory.specs.declared.Refusal.{Refusal}
 use Rattle.memory.specs.Word.{when◌then◌else◌}
-use Rattle.memory.specs.Reading.{Reading, done, refuse, ask, asking, blaming, fault, absent, missing, ◌>>=◌, check, check_of, nobody, each, fetch, Outcome, given, refused, run_from, run}
+use Rattle.memory.specs.Reading.{Reading, done, refuse, ask, asking, blaming, fault, absent, missing, ◌>>=◌, check, check_of, nobody, each, fetch, Outcome, given, refused, run_from, run, refusal, told_in}
+
+-- what the exit of a `?` returns: the refusal that it met
+pub exit : {A E : Type 0} (r : Result A E) {x : E} → IsErrAnd r (λ y. y ≡ x) → r ≡ Err x
+exit (Ok _) e = elim e [ ]
+exit (Err y) e = ap Err e
+
+-- what was read, and what refused, from what a call tells of it
+pub told-ok : {T : Type 0} (row : ℕ) (r : Result T Fault) {t : T} → told_in row r ≡ Ok t → r ≡ Ok t
+told-ok row (Ok s) {t} e = let k : s ≡ t = cc in ap Ok k
+told-ok row (Err x) e = let z : ◌≡◌ {A = ℕ} 0 1 = cc in absurd (omega arith)
+
+pub told-err : {T : Type 0} (row : ℕ) (r : Result T Fault) {y : Refusal} → told_in row r ≡ Err y → (x : Fault) × (r ≡ Err x) × (y ≡ refusal row x)
+told-err row (Ok _) e = let z : ◌≡◌ {A = ℕ} 0 1 = cc in absurd (omega arith)
+told-err row (Err x) e = (x, refl, cc)
 
 -- go on from an outcome
 abbrev next : {A B : Type 0} → Outcome A → (ℕ → A → Outcome B) → Outcome B
@@ -78,21 +92,21 @@ module _ {A : Type 0} (n : ℕ) (m : List ℕ) (i : ℕ) (b : Bool) (k : Unit {0
 
 -- what `word_at` says, of a reading that asks there
 if_word : {A : Type 0} (b : Bool) (v x : ℕ) (y : ℕ → Outcome A) (z : Outcome A)
-    → (when b then Word v else Absent) ≡ Word x → (when b then y v else z) ≡ y x
+    → (when b then Some v else None) ≡ Some x → (when b then y v else z) ≡ y x
 if_word true v x y z e = let q : v ≡ x = cc in rw q
 if_word false v x y z e = let q : true ≡ false = cc in cc
 
-if-absent : {A : Type 0} (b : Bool) (v : ℕ) (y z : Outcome A) → (when b then Word v else Absent) ≡ Absent → (when b then y else z) ≡ z
+if-absent : {A : Type 0} (b : Bool) (v : ℕ) (y z : Outcome A) → (when b then Some v else None) ≡ None → (when b then y else z) ≡ z
 if-absent true v y z e = cc
 if-absent false v y z e = refl
 
 module _ {A : Type 0} (n : ℕ) (m : List ℕ) (p : Pointer) (f : ℕ → Reading A) where
-  pub ask-word : (x : ℕ) → fetch m p.address ≡ Word x → run_from n m (ask (asking p) f) ≡ run_from (n + 1) m (f x)
+  pub ask-word : (x : ℕ) → fetch m p.address ≡ Some x → run_from n m (ask (asking p) f) ≡ run_from (n + 1) m (f x)
   unfolding run_from
   ask-word x e =
       if_word (ltb (p.address / 2) (length m)) (get_or m (p.address / 2) 0) x (λ v. run_from (n + 1) m (f v)) (refused (missing p)) e
 
-  pub ask-absent : fetch m p.address ≡ Absent → run_from n m (ask (asking p) f) ≡ refused (missing p)
+  pub ask-absent : fetch m p.address ≡ None → run_from n m (ask (asking p) f) ≡ refused (missing p)
   unfolding run_from
   ask-absent e = if-absent (ltb (p.address / 2) (length m)) (get_or m (p.address / 2) 0) _ _ e
 

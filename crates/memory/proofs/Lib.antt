@@ -1,5 +1,6 @@
 pub mod Laws
 pub mod WordLaws
+pub mod TestLaws
 pub mod ListLaws
 pub mod Step
 pub mod RunLaws

@@ -1,7 +1,6 @@
 -- Words that stand one after the other in memory: the address some words further as one sum, and what such a run reads.
-use Rattle.std.proofs.Common.{◌≡◌, ℕ, zero, suc, ◌+◌, ◌-◌, ◌*◌, ◌/◌, ◌<◌, ◌≤◌, Bool, true, false, leb, List, [], ◌∷◌, length, get_or, take, drop, sym, refl, ap, ◌∙◌, ap₂, add-zero, zero-add, add-one, arith, length-drop, length-take-le, drop-cons, lt-ltb, le-leb, leb-false, leb-true}
+use Rattle.std.proofs.Common.{◌≡◌, ℕ, zero, suc, ◌+◌, ◌-◌, ◌*◌, ◌/◌, ◌<◌, ◌≤◌, Bool, true, false, leb, List, [], ◌∷◌, length, get_or, take, drop, sym, refl, ap, ◌∙◌, ap₂, add-zero, zero-add, add-one, arith, length-drop, length-take-le, drop-cons, lt-ltb, le-leb, leb-false, leb-true, Some}
 use borrow.Author.Tests.{lt-leb}
-use Rattle.memory.specs.declared.Fetch.TheVariants.{Word}
 use Rattle.memory.specs.declared.Pointer.{Pointer}
 use Rattle.memory.specs.Reading.{done, ◌>>=◌, fetch, given, run_from, run}
 use Rattle.memory.specs.Address.{forward, next_word, ahead, onward, words}
@@ -57,7 +56,7 @@ module _ (len a k : ℕ) where
 
 -- the words of a run are there
 pub run-fetch : (l : Bool) (m : List ℕ) (a k j : ℕ) → is_run l (length m) a k ≡ true → j < k
-    → fetch m (ahead l j a) ≡ Word (get_or m (a / 2 + j) 0)
+    → fetch m (ahead l j a) ≡ Some (get_or m (a / 2 + j) 0)
 run-fetch l m a k j h i =
     let end = run_ends (length m) a k l h in
     let at : (a + 2 * j) / 2 ≡ a / 2 + j = omega arith in
@@ -75,7 +74,7 @@ run-words l m p k h = rest 0 0 k p refl (zero-add k) ∙ ap₂ given (zero-add k
     rest n j (suc i) q a e =
         let x = get_or m (p.address / 2 + j) 0 in
         let end = run_ends (length m) p.address k l h in
-        let there : fetch m q.address ≡ Word x = ap (fetch m) a ∙ run-fetch l m p.address k j h (omega arith) in
+        let there : fetch m q.address ≡ Some x = ap (fetch m) a ∙ run-fetch l m p.address k j h (omega arith) in
         let left : suc i - 1 ≡ i = omega arith in
         let count : n + 1 + i ≡ n + suc i = omega arith in
         let next = rest (n + 1) (suc j) i (onward l q) (ap (next_word l) a ∙ ahead-next l j p.address) (omega arith) in

@@ -1,8 +1,6 @@
 -- A reading is a rule that reads memory: what it asks for, word by word, and what it then gives or refuses.
 -- The count of words, refusal 7 with its addresses and the addresses read, in order, are defined here once for every rule.
-use Rattle.std.specs.Prelude.{ℕ, ◌+◌, ◌/◌, Bool, true, false, ltb, List, [], ◌∷◌, length, ◌==◌, nat_lt, slice_index}
-use Rattle.memory.specs.declared.Fetch.{Fetch}
-use Rattle.memory.specs.declared.Fetch.TheVariants.{Word, Absent}
+use Rattle.std.specs.Prelude.{ℕ, ◌+◌, ◌/◌, Bool, true, false, ltb, List, [], ◌∷◌, length, ◌==◌, nat_lt, slice_index, Option, Some, None, Result, Ok, Err}
 use Rattle.memory.specs.declared.Fault.{Fault}
 use Rattle.memory.specs.declared.Pointer.{Pointer}
 use Rattle.memory.specs.declared.Refusal.{Refusal}
@@ -82,8 +80,8 @@ each f [] b = done b
 each f (x ∷ xs) b = f x b >>= each f xs
 
 -- "Memory is a lent slice of 16-bit words; the word at byte address a is number a/2." An absent word is refusal 7 (`run_from`).
-abbrev pub fetch : List ℕ → ℕ → Fetch
-fetch m a = when nat_lt (a / 2) (length m) then Word (slice_index m (a / 2)) else Absent
+abbrev pub fetch : List ℕ → ℕ → Option ℕ
+fetch m a = when nat_lt (a / 2) (length m) then Some (slice_index m (a / 2)) else None
 
 -- what a reading comes to: "The word count is every word read"; a refusal has a number and an address
 pub data Outcome (A : Type 0) : Type 0 where
@@ -120,3 +118,7 @@ from_told x = when x.number == 7 then x.from else 0
 -- what a call tells: a refusal's number and addresses with the row, which "is 0 at the start, else the state's"
 abbrev pub refusal : ℕ → Fault → Refusal
 refusal row x = record { number = x.number; row = row; address = x.address; from = from_told x }
+
+abbrev pub told_in : {T : Type 0} → ℕ → Result T Fault → Result T Refusal
+told_in row (Ok t) = Ok t
+told_in row (Err x) = Err (refusal row x)

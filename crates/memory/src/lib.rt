@@ -2,21 +2,28 @@
 // Display memory: pointers, addresses, and the words that a host lends.
 ghost use Rattle.std.specs.Prelude.{◌≡◌, ◌+◌, ◌<◌, ◌≤◌, length, take, drop, nat_le};
 ghost use Rattle.memory.specs.Word.{bit, high, low};
-ghost use Rattle.memory.specs.Reading.{fetch, blaming, fault, missing, from_told, refusal, run};
+ghost use Rattle.memory.specs.Reading.{fetch, blaming, fault, missing, from_told, refusal, told_in, run};
 ghost use Rattle.memory.specs.Address.{to, pointer, is_address, page_after, forward, next_word, ahead, onward, further, words};
 ghost use Rattle.memory.specs.Answers.{is_run, end_page, words_read};
 
 // A pointer in use: the address of the word that is due, and where the pointer itself begins in memory, 0 where a register held it. A
 // null pointer has 0 and 0.
-#[derive(Clone, Copy)]
+#[derive(Clone, Copy, PartialEq, Eq)]
 pub struct Pointer {
     pub address: u32,
     pub from: u32,
 }
 
+impl Pointer {
+    pub const NULL: Pointer = Pointer {
+        address: 0,
+        from: 0,
+    };
+}
+
 // A refusal on its way up, before its row is told: document 01's number, the address, and of refusals 7 to 10 and 13 where the pointer to
 // blame begins.
-#[derive(Clone, Copy)]
+#[derive(Clone, Copy, PartialEq, Eq)]
 pub struct Fault {
     pub number: u8,
     pub address: u32,
@@ -24,26 +31,12 @@ pub struct Fault {
 }
 
 // A refusal of document 01: its number, the row and the address that it tells; of refusal 7 also where the pointer in use begins.
-#[derive(Clone, Copy)]
+#[derive(Clone, Copy, PartialEq, Eq)]
 pub struct Refusal {
     pub number: u8,
     pub row: u32,
     pub address: u32,
     pub from: u32,
-}
-
-// A word of memory, or that the address lies outside it.
-#[derive(Clone, Copy)]
-pub enum Fetch {
-    Word(u16),
-    Absent,
-}
-
-// That a slice is filled, or refusal 7 of the first word that lies outside memory.
-#[derive(Clone, Copy)]
-pub enum WordsRead {
-    Whole,
-    Refused(Fault),
 }
 
 // The refusal of a check: its addresses are 0.
@@ -88,6 +81,23 @@ pub fn refusal_of(row: u32, fault: Fault) -> Refusal
         row,
         address: fault.address,
         from: from_told(fault),
+    }
+}
+
+// The refusal of a check that is met in no row.
+pub fn refused<T>(number: u8) -> Result<T, Refusal>
+    ensures { result ≡ Err (refusal 0 (fault number)) }
+{
+    Err(refusal_of(0, fault_of(number)))
+}
+
+// What a call answers of a row: what it read, or the refusal that it tells.
+pub fn told_in<T>(row: u32, read: Result<T, Fault>) -> Result<T, Refusal>
+    ensures { result ≡ told_in row read }
+{
+    match read {
+        Ok(value) => Ok(value),
+        Err(fault) => Err(refusal_of(row, fault)),
     }
 }
 
@@ -163,7 +173,7 @@ pub fn next_word(linear: bool, a: u32) -> u32
     ensures { result ≡ next_word linear a }
 {
     let place = (a % 65536) as u16;
-    let next = std::num::wrapping_add_u16(place, 2);
+    let next = place.wrapping_add(2);
     let carried = if next < place { 1 } else { 0 };
     page_after(linear, carried, a / 65536) * 65536 + next as u32
 }
@@ -209,45 +219,38 @@ pub fn is_run(mem: &[u16], linear: bool, a: u32, count: usize) -> bool
 }
 
 // The word at the address `a`.
-pub fn word_at(mem: &[u16], a: u32) -> Fetch
+pub fn word_at(mem: &[u16], a: u32) -> Option<u16>
     ensures { result ≡ fetch mem.now a }
 {
-    let i = (a / 2) as usize;
-    if i < mem.len() {
-        Fetch::Word(mem[i])
-    } else {
-        Fetch::Absent
-    }
+    mem.get((a / 2) as usize).copied()
 }
 
 // As many words as `into` holds, from a pointer on.
-pub fn read_words(mem: &[u16], linear: bool, p: Pointer, into: &mut [u16]) -> WordsRead
+pub fn read_words(mem: &[u16], linear: bool, p: Pointer, into: &mut [u16]) -> Result<(), Fault>
     ensures { words_read result into.new ≡ run mem.now (words linear (length into.old) p) }
 {
     let mut at = p;
-    let mut i = 0;
-    while i < into.len() {
-        let Fetch::Word(w) = word_at(mem, at.address) else {
-            return WordsRead::Refused(missing(at));
+    for w in into {
+        let Some(word) = word_at(mem, at.address) else {
+            return Err(missing(at));
         };
-        into[i] = w;
+        *w = word;
         at = onward(linear, at);
-        i += 1;
     }
-    WordsRead::Whole
+    Ok(())
 }
 
 // As `read_words`, of words that are often many and stand one after the other in memory: those are copied.
-pub fn read_many(mem: &[u16], linear: bool, p: Pointer, into: &mut [u16]) -> WordsRead
+pub fn read_many(mem: &[u16], linear: bool, p: Pointer, into: &mut [u16]) -> Result<(), Fault>
     ensures { words_read result into.new ≡ run mem.now (words linear (length into.old) p) }
 {
     if into.len() == 0 {
-        return WordsRead::Whole;
+        return Ok(());
     }
     let first = p.address;
     if is_run(mem, linear, first, into.len()) {
         copy_run(mem, (first / 2) as usize, into);
-        return WordsRead::Whole;
+        return Ok(());
     }
     read_words(mem, linear, p, into)
 }
@@ -257,10 +260,8 @@ fn copy_run(mem: &[u16], at: usize, into: &mut [u16])
     requires { at + length into.old ≤ length mem.now }
     ensures { into.new ≡ take (length into.old) (drop at mem.now) }
 {
-    let mut i = 0;
-    while i < into.len() {
-        into[i] = mem[at + i];
-        i += 1;
+    for (i, word) in into.iter_mut().enumerate() {
+        *word = mem[at + i];
     }
 }
 

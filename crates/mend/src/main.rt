@@ -9,12 +9,11 @@ ghost use Rattle.text.specs.Text.{outcome_text};
 ghost use Rattle.mend_text.specs.MendText.{output};
 ghost use Rattle.mend.specs.Mended.{Mends};
 
-use mend_text::ChangeLines;
+use lines::Piece;
 use script::Step;
 use settings::Settings;
 use std::io;
 use std::io::{Read, Write};
-use text::Lines;
 
 fn main(rt: HostRuntime) -> io::Result<()> {
     mend_script(&mut rt.stdin(), &mut rt.stdout())
@@ -41,37 +40,16 @@ fn mend<W: Write>(to: &mut W, settings: Settings, mem: &mut [u16; 16384]) -> io:
 {
     let mut now = settings;
     let mut out = [0u8; 2048];
-    loop {
-        match mend_text::next_change(now, mem, &mut out) {
-            ChangeLines::Ended => {
-                return Ok(now);
-            }
-            ChangeLines::Written {
-                count,
-                settings: after,
-            } => {
-                to.write_all(&out[..count])?;
-                now = after;
-            }
-        }
+    while let Some(Piece { count, after }) = mend_text::next_change(now, mem, &mut out) {
+        to.write_all(&out[..count])?;
+        now = after;
     }
+    Ok(now)
 }
 
-// The script's text, as its lines come; a write that fails ends it.
+// A script's text; a write that fails ends it.
 fn print<W: Write>(to: &mut W, script: Step, mem: &[u16; 16384]) -> io::Result<()>
     ensures { OnOk result (Appends (W.contents to.old) (W.contents to.new) (outcome_text (outcome (stepped script mem.now)))) }
 {
-    let mut text = text::begin(script, mem);
-    let mut out = [0u8; 2048];
-    loop {
-        match text::next(text, mem, &mut out) {
-            Lines::AtEnd => {
-                return Ok(());
-            }
-            Lines::Written { count, text: after } => {
-                to.write_all(&out[..count])?;
-                text = after;
-            }
-        }
-    }
+    script_input::print(to, text::begin(script, mem), mem)
 }

@@ -1,11 +1,13 @@
 -- A call's answer and the text of a list, by a step of its mending.
+use Rattle.std.proofs.Common.{Some, None}
 use mathlib.Core.Path.{◌≡◌, refl, sym, ap, subst, ◌∙◌}
 use mathlib.Core.List.{List, ◌++◌, append_assoc}
-use mathlib.Core.Option.{none, some}
 use Prim.Native.Nat.{ℕ, ◌<◌}
 use Rattle.settings.specs.declared.Settings.{Settings}
 use Rattle.frame.specs.Frame.{frame}
 use Rattle.lines.specs.Lines.{Line}
+use Rattle.lines.specs.Pieces.{Writes}
+use Rattle.lines.proofs.PieceLaws.{with-piece}
 use Rattle.text.specs.Text.{frame_text}
 use Rattle.blame.specs.declared.Verdict.{Verdict}
 use Rattle.blame.specs.Blame.{verdict}
@@ -14,9 +16,8 @@ use Rattle.mending.specs.declared.MendAnswer.{MendAnswer}
 use Rattle.mending.specs.declared.MendAnswer.TheVariants.{Whole, Changed, Refused}
 use Rattle.mending.specs.Mending.{Stepped, stepped, by_verdict, mend_step, by_step, count, mended}
 use Rattle.mending.proofs.Steps.{Sixteen, mended-step}
-use Rattle.mend_text.specs.declared.ChangeLines.TheVariants.{Written}
 use Rattle.mend_text.specs.MendText.{change_line, changes_text, mended_text}
-use Rattle.mend_text.specs.NextChange.{Given, given, by_answer, next_change, answered, to_mend, Writes}
+use Rattle.mend_text.specs.NextChange.{Given, given, by_answer, next_change, answered, to_mend}
 
 -- the answer of a step that changes nothing
 abbrev pub Unchanged : MendAnswer → Type 0
@@ -30,11 +31,11 @@ module _ (σ : Settings) (m : List ℕ) where
   next_of s = by_answer σ s.answer s.memory
 
   pub changed-next : {c : Change} {σ₁ : Settings} {m₁ : List ℕ} (n : ℕ) (buffer : List ℕ) → Line (change_line c) n buffer
-      → stepped (Changed c σ₁) m₁ ≡ mend_step 0 σ m → answered σ (Written n σ₁) m₁ buffer ≡ next_change σ m
+      → stepped (Changed c σ₁) m₁ ≡ mend_step 0 σ m → answered σ (Some (record { count = n; after = σ₁ })) m₁ buffer ≡ next_change σ m
   unfolding next_change
-  changed-next {σ₁} {m₁} n buffer l e = ap (λ (t : List ℕ). given (some t) σ₁ m₁) l.2 ∙ ap next_of e
+  changed-next {σ₁} {m₁} n buffer l e = ap (λ (t : List ℕ). given (Some t) σ₁ m₁) l.2 ∙ ap next_of e
 
-  pub unchanged-next : (x : MendAnswer) → Unchanged x → {m₁ : List ℕ} → stepped x m₁ ≡ mend_step 0 σ m → given none σ m₁ ≡ next_change σ m
+  pub unchanged-next : (x : MendAnswer) → Unchanged x → {m₁ : List ℕ} → stepped x m₁ ≡ mend_step 0 σ m → given None σ m₁ ≡ next_change σ m
   unfolding next_change
   unchanged-next Whole h e = ap next_of e
   unchanged-next (Changed c σ₁) h e = absurd h
@@ -52,9 +53,8 @@ module _ (σ : Settings) (m : List ℕ) (w : Sixteen σ m) where
       sym (by-step e ∙ append_assoc (change_line c) (changes_text d.changes) (frame_text d.settings (frame 0 d.settings d.memory)))
 
   pub change-written : {c : Change} {σ₁ : Settings} {m₁ : List ℕ} (n : ℕ) (buffer : List ℕ) → Line (change_line c) n buffer
-      → stepped (Changed c σ₁) m₁ ≡ mend_step 0 σ m → count σ₁ m₁ < count σ m → Writes σ m n σ₁ m₁ buffer
-  change-written {σ₁} {m₁} n buffer l e f =
-      record { within = l.0; sized = l.1; lines = ap (λ (x : List ℕ). x ++ to_mend σ₁ m₁) l.2 ∙ changed-text e; fewer = f }
+      → stepped (Changed c σ₁) m₁ ≡ mend_step 0 σ m → count σ₁ m₁ < count σ m → Writes n buffer (to_mend σ m) (to_mend σ₁ m₁) (count σ m) (count σ₁ m₁)
+  change-written n buffer l e f = with-piece l (changed-text e) f
 
   -- where nothing is changed memory is left, and the text is the draw program's
   pub unchanged-text : (x : MendAnswer) → Unchanged x → {m₁ : List ℕ} → stepped x m₁ ≡ mend_step 0 σ m

@@ -5,31 +5,28 @@ ghost use Rattle.lines.specs.Lines.{Line};
 ghost use Rattle.mend_text.specs.MendText.{change_line};
 ghost use Rattle.mend_text.specs.NextChange.{next_change, answered, Next};
 
+use lines::Piece;
 use mending::{Change, MendAnswer};
 use settings::Settings;
 
-// A line of `count` bytes, with the settings after its change; or that there is nothing more to mend.
-#[derive(Clone, Copy)]
-pub enum ChangeLines {
-    Written { count: usize, settings: Settings },
-    Ended,
-}
-
-// The next change of a list, and its line at the start of `out`. The frame is the first one that a console draws: from latch 0.
-pub fn next_change(settings: Settings, mem: &mut [u16], out: &mut [u8; 2048]) -> ChangeLines
+// The next change of a list: its line at the start of `out`, and the settings after it; or that there is nothing more to mend. The frame is the first one that a console draws: from latch 0.
+pub fn next_change(
+    settings: Settings,
+    mem: &mut [u16],
+    out: &mut [u8; 2048],
+) -> Option<Piece<Settings>>
     ensures out_after { answered settings result mem.new out.new ≡ next_change settings mem.old }
     ensures next { Next settings mem.old result mem.new out.new }
 {
     match mending::mend_step(settings, mem, 0) {
-        MendAnswer::Whole => ChangeLines::Ended,
-        MendAnswer::Refused(_) => ChangeLines::Ended,
+        MendAnswer::Whole | MendAnswer::Refused(_) => None,
         MendAnswer::Changed {
             change,
             settings: after,
-        } => ChangeLines::Written {
+        } => Some(Piece {
             count: change_line(change, out),
-            settings: after,
-        },
+            after,
+        }),
     }
 }
 

@@ -59,19 +59,18 @@ pub fn place_address(place: Place) -> u32
 fn change_of(place: Place, number: u8, settings: Settings, mem: &[u16]) -> Change
     ensures { result ≡ change_of «place» number settings mem.now }
 {
-    match place {
-        Place::Register => Change {
-            place,
-            first: settings.tow.first,
-            second: settings.tow.second,
-            number,
-        },
-        Place::Memory(address) => Change {
-            place,
-            first: word_or_0(mem, address),
-            second: word_or_0(mem, memory::next_word(settings.linear, address)),
-            number,
-        },
+    let (first, second) = match place {
+        Place::Register => (settings.tow.first, settings.tow.second),
+        Place::Memory(address) => (
+            word_or_0(mem, address),
+            word_or_0(mem, memory::next_word(settings.linear, address)),
+        ),
+    };
+    Change {
+        place,
+        first,
+        second,
+        number,
     }
 }
 
@@ -79,20 +78,16 @@ fn change_of(place: Place, number: u8, settings: Settings, mem: &[u16]) -> Chang
 fn word_or_0(mem: &[u16], address: u32) -> u16
     ensures { result ≡ get_or mem.now (address / 2) 0 }
 {
-    let i = (address / 2) as usize;
-    if i < mem.len() { mem[i] } else { 0 }
+    mem.get((address / 2) as usize).copied().unwrap_or(0)
 }
 
 // Memory with the words of the pointer at a place 0.
 fn clear_words(place: Place, linear: bool, mem: &mut [u16])
     ensures { mem.new ≡ memory_after «place» linear mem.old }
 {
-    match place {
-        Place::Register => {}
-        Place::Memory(address) => {
-            clear_word(mem, address);
-            clear_word(mem, memory::next_word(linear, address));
-        }
+    if let Place::Memory(address) = place {
+        clear_word(mem, address);
+        clear_word(mem, memory::next_word(linear, address));
     }
 }
 
@@ -111,15 +106,13 @@ fn clear_register(place: Place, settings: Settings) -> Settings
     ensures { result ≡ settings_after «place» settings }
 {
     match place {
-        Place::Register => {
-            let tow = PointerWords {
+        Place::Register => Settings {
+            tow: PointerWords {
                 first: 0,
                 second: 0,
-            };
-            let mut cleared = settings;
-            cleared.tow = tow;
-            cleared
-        }
+            },
+            ..settings
+        },
         Place::Memory(_) => settings,
     }
 }

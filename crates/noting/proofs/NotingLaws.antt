@@ -1,4 +1,5 @@
 -- The laws by which a proof follows a reading whose addresses are noted: its parts one after the other, what it comes to, and the list.
+use Rattle.std.proofs.Common.{Some, None}
 use mathlib.Core.Path.{◌≡◌, refl, ap, sym, ◌∙◌}
 use mathlib.Core.Bool.{Bool, true, false}
 use mathlib.Core.List.{List, [], ◌∷◌}
@@ -9,7 +10,6 @@ use lib.ListN.{length, get_or, set}
 use lib.Seq.{sets}
 use lib.Dec.{ltb}
 use Rattle.memory.specs.Word.{when◌then◌else◌}
-use Rattle.memory.specs.declared.Fetch.TheVariants.{Word, Absent}
 use Rattle.memory.specs.declared.Fault.{Fault}
 use Rattle.memory.specs.declared.Pointer.{Pointer}
 use Rattle.memory.specs.Reading.{Ask, Reading, done, refuse, ask, word, asking, ◌>>=◌, fetch, Outcome, given, refused, absent, run_from, asked}
@@ -75,13 +75,13 @@ noting-bind n m l (ask q g) f e =
     turn false q l rest e = absurd (not-refused (absent q) l e)
 
 -- a word that is there
-pub noting-word : {B : Type 0} (n : ℕ) (m l : List ℕ) (p : Pointer) (f : ℕ → Reading B) {w : ℕ} → fetch m p.address ≡ Word w
+pub noting-word : {B : Type 0} (n : ℕ) (m l : List ℕ) (p : Pointer) (f : ℕ → Reading B) {w : ℕ} → fetch m p.address ≡ Some w
     → noting n m l (word p >>= f) ≡ noting (n + 1) m (set l n p.address) (f w)
 unfolding noting ◌>>=◌
 noting-word n m l p f {w} e =
     turn (ltb (p.address / 2) (length m)) (λ (v : ℕ). noting (n + 1) m (set l n p.address) (f v)) (get_or m (p.address / 2) 0) (noted (refused (absent (asking p))) l) e
   where
-    turn : {B : Type 0} (b : Bool) (g : ℕ → Noted B) (v : ℕ) (z : Noted B) {w : ℕ} → (when b then Word v else Absent) ≡ Word w → (when b then g v else z) ≡ g w
+    turn : {B : Type 0} (b : Bool) (g : ℕ → Noted B) (v : ℕ) (z : Noted B) {w : ℕ} → (when b then Some v else None) ≡ Some w → (when b then g v else z) ≡ g w
     turn true g v z {w} e = let same : v ≡ w = cc in ap g same
     turn false g v z e = let z : ◌≡◌ {A = ℕ} 0 1 = cc in absurd (omega arith)
 

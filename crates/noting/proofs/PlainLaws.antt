@@ -1,4 +1,5 @@
 -- Codes that have the latch: words none of whose codes invokes, and what the codes of such words come to.
+use Rattle.std.proofs.Common.{Some}
 use mathlib.Core.Path.{◌≡◌, refl, ap, ap₂, sym, fun_ext, ◌∙◌}
 use mathlib.Core.List.{List, [], ◌∷◌}
 use mathlib.Core.Bool.{Bool, true, false, ◌&&◌, ◌||◌, not, or_assoc}
@@ -10,7 +11,6 @@ use lib.ListN.{length, get_or, drop, set}
 use lib.Seq.{sets}
 use lib.Dec.{ltb}
 use Rattle.memory.specs.Word.{high, low}
-use Rattle.memory.specs.declared.Fetch.TheVariants.{Word}
 use Rattle.memory.specs.declared.Pointer.{Pointer}
 use Rattle.memory.specs.Address.{next_word, ahead, onward, further}
 use Rattle.memory.specs.Reading.{Reading, done, refuse, ask, asking, ◌>>=◌, each, fetch, given}
@@ -28,7 +28,7 @@ use Rattle.noting.specs.Noting.{pointing, noted, noting, in_turn, some_invoke}
 use Rattle.noting.proofs.NotingLaws.{noting-bind, noting-word, noting-done}
 
 -- tests joined by "or"
-or-join : (a b c d : Bool) → a || (b || c || d) ≡ a || b || c || d
+or-join : (a b c d : Bool) → a || (b || c || d) ≡ a || (b || c) || d
 or-join true b c d = refl
 or-join false b c d = refl
 
@@ -40,7 +40,7 @@ or-false false = refl
 module _ (flag : ℕ) (m : List ℕ) where
   pub some_more : (b : Bool) (from n i : ℕ) → i < n
       → b || some_invoke flag m (from + i) (n - i)
-      ≡ b || invokes flag (high (get_or m (from + i) 0)) || invokes flag (low (get_or m (from + i) 0))
+      ≡ b || (invokes flag (high (get_or m (from + i) 0)) || invokes flag (low (get_or m (from + i) 0)))
       || some_invoke flag m (from + (i + 1)) (n - (i + 1))
   unfolding some_invoke
   some_more b from n i h =
@@ -50,7 +50,7 @@ module _ (flag : ℕ) (m : List ℕ) where
       let second = invokes flag (low (get_or m (from + i) 0)) in
       ap (λ (k : ℕ). b || some_invoke flag m (from + i) k) left
       ∙ or-join b first second (some_invoke flag m (suc (from + i)) (n - (i + 1)))
-      ∙ ap (λ (k : ℕ). b || first || second || some_invoke flag m k (n - (i + 1))) place
+      ∙ ap (λ (k : ℕ). b || (first || second) || some_invoke flag m k (n - (i + 1))) place
 
   pub some-begun : (from n : ℕ) → some_invoke flag m from n ≡ false || some_invoke flag m (from + 0) (n - 0)
   some-begun from n =
@@ -183,7 +183,7 @@ module _ (m : List ℕ) (σ : CodeSettings) (source : Source) (end : ℕ) where
 
   -- codes whose words are there: none takes a word of a list
   plain-there : (n : ℕ) (l : List ℕ) (count p : ℕ) (q : Pointer) (d : Drawing) (present : Bool) (latch : ℕ) → p + (count + 1) / 2 ≤ length m
-      → ((j : ℕ) → j < (count + 1) / 2 → fetch m (ahead σ.linear j q.address) ≡ Word (get_or m (p + j) 0))
+      → ((j : ℕ) → j < (count + 1) / 2 → fetch m (ahead σ.linear j q.address) ≡ Some (get_or m (p + j) 0))
       → d.pen.list.present ≡ present → d.pen.latch ≡ latch → present && some_invoke σ.flag m p ((count + 1) / 2) ≡ false
       → noting n m l (codes σ source end count q d)
       ≡ noted (given (n + (count + 1) / 2) (characters σ.hidden source end latch (codes_in (drop p m) count) d))
@@ -196,7 +196,7 @@ module _ (m : List ℕ) (σ : CodeSettings) (source : Source) (end : ℕ) where
       ∙ ap₂ (λ (i k : ℕ). noted (given i d) (sets l n (in_turn σ.linear k q.address))) count half
   plain-there n l (suc zero) p q d present latch h f e g t =
       let w = get_or m p 0 in
-      let first : fetch m q.address ≡ Word w = f 0 (omega arith) ∙ ap (λ (i : ℕ). Word (get_or m i 0)) (omega arith) in
+      let first : fetch m q.address ≡ Some w = f 0 (omega arith) ∙ ap (λ (i : ℕ). Some (get_or m i 0)) (omega arith) in
       let parts = plain-parts present (invokes σ.flag (high w)) (invokes σ.flag (low w)) (some_invoke σ.flag m (suc p) 0) t in
       let none : invokes σ.flag (high w) && d.pen.list.present ≡ false =
       ap (λ (b : Bool). invokes σ.flag (high w) && b) e ∙ parts.0 in
@@ -208,7 +208,7 @@ module _ (m : List ℕ) (σ : CodeSettings) (source : Source) (end : ℕ) where
       (sym (codes-last m p (omega arith)))
   plain-there n l (suc (suc k)) p q d present latch h f e g t =
       let w = get_or m p 0 in
-      let first : fetch m q.address ≡ Word w = f 0 (omega arith) ∙ ap (λ (i : ℕ). Word (get_or m i 0)) (omega arith) in
+      let first : fetch m q.address ≡ Some w = f 0 (omega arith) ∙ ap (λ (i : ℕ). Some (get_or m i 0)) (omega arith) in
       let half : suc ((k + 1) / 2) ≡ (suc (suc k) + 1) / 2 = omega arith in
       let parts =
       plain-parts present (invokes σ.flag (high w)) (invokes σ.flag (low w)) (some_invoke σ.flag m (suc p) ((k + 1) / 2))
@@ -233,7 +233,7 @@ module _ (m : List ℕ) (σ : CodeSettings) (source : Source) (end : ℕ) where
       ∙ noting-done (n + 1) m l₁ d₂ in
       let rest =
       plain-there (n + 1) l₁ k (suc p) (onward σ.linear q) d₂ present latch (omega arith)
-      (λ j less. f (suc j) (omega arith) ∙ ap (λ (i : ℕ). Word (get_or m i 0)) (omega arith)) list₂ latch₂ parts.2 in
+      (λ j less. f (suc j) (omega arith) ∙ ap (λ (i : ℕ). Some (get_or m i 0)) (omega arith)) list₂ latch₂ parts.2 in
       let two : ℕ → ℕ → Drawing = λ (a b : ℕ). character σ.hidden source end a (low w) (character σ.hidden source end b (high w) d) in
       let cs = codes_in (drop (suc p) m) k in
       let turn = in_turn σ.linear ((k + 1) / 2) (next_word σ.linear q.address) in

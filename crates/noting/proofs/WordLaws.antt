@@ -1,4 +1,5 @@
 -- Codes of a segment with a list, with the addresses noted: one code, one word of them, and what is left from there on.
+use Rattle.std.proofs.Common.{Some}
 use mathlib.Core.Path.{◌≡◌, refl, ap, ap₂, sym, ◌∙◌}
 use mathlib.Core.Bool.{Bool, true, false}
 use mathlib.Core.List.{List}
@@ -7,7 +8,6 @@ use native.Mathlib.Omega.{arith}
 use native.Mathlib.Nat.{add-zero}
 use lib.ListN.{length, get_or, set}
 use Rattle.memory.specs.Word.{when◌then◌else◌, high, low}
-use Rattle.memory.specs.declared.Fetch.TheVariants.{Word}
 use Rattle.memory.specs.declared.Pointer.{Pointer}
 use Rattle.memory.specs.Address.{onward, further}
 use Rattle.memory.specs.Reading.{each, fetch, given}
@@ -26,7 +26,7 @@ use Rattle.noting.proofs.NotingLaws.{noting-word, noting-bind, noting-done}
 module _ (m : List ℕ) (σ : CodeSettings) (source : Source) (end : ℕ) where
   -- one code, where the next word of its list is there
   examine-noted : (n : ℕ) (l : List ℕ) (w code : ℕ) (d : Drawing) → d.pen.list.present ≡ true
-      → fetch m d.pen.list.next.address ≡ Word w
+      → fetch m d.pen.list.next.address ≡ Some w
       → noting n m l (examine σ source end code d)
       ≡ noted (given (n + (when invokes σ.flag code then 1 else 0)) (examined σ source end w code d))
       (when invokes σ.flag code then set l n d.pen.list.next.address else l)
@@ -62,7 +62,7 @@ module _ (m : List ℕ) (σ : CodeSettings) (source : Source) (end : ℕ) where
       ∙ ap (noted (given (n + h₁.taken) (so_far (pen_of σ.linear next h₁) cs₁))) here
 
   -- a word of codes that is there: both of its codes, and the last one alone
-  module _ (n : ℕ) (l : List ℕ) (p : Pointer) (d : Drawing) (w : ℕ) (there : fetch m p.address ≡ Word w)
+  module _ (n : ℕ) (l : List ℕ) (p : Pointer) (d : Drawing) (w : ℕ) (there : fetch m p.address ≡ Some w)
       (n₁ : ℕ) (d₁ : Drawing) (l₁ : List ℕ)
       (first : noting (n + 1) m (set l n p.address) (examine σ source end (high w) d) ≡ noted (given n₁ d₁) l₁) where
     word_two : (k n₂ : ℕ) (d₂ : Drawing) (l₂ : List ℕ) → noting n₁ m l₁ (examine σ source end (low w) d₁) ≡ noted (given n₂ d₂) l₂
@@ -89,8 +89,8 @@ module _ (m : List ℕ) (σ : CodeSettings) (source : Source) (end : ℕ) where
     abbrev at : Pointer
     at = further σ.linear i (pointing first from)
 
-    there : fetch m at.address ≡ Word w
-    there = run-fetch σ.linear m first ((count + 1) / 2) i run (omega arith) ∙ ap Word (sym same)
+    there : fetch m at.address ≡ Some w
+    there = run-fetch σ.linear m first ((count + 1) / 2) i run (omega arith) ∙ ap Some (sym same)
 
     one : noting (words + i + h.taken + 1) m (set l (words + i + h.taken) at.address) (examine σ source end (high w) (so_far (pen_of σ.linear next h) cs))
         ≡ noted (given (words + i + 1 + h₁.taken) (so_far (pen_of σ.linear next h₁) cs₁)) l₁

@@ -7,18 +7,11 @@ ghost use Rattle.codes.specs.Codes.{codes};
 ghost use Rattle.codes.specs.Answers.{so_far};
 ghost use Rattle.noting.specs.Noting.{pointing, noted, noting, some_invoke};
 
-use codes::{CodeSettings, Pen, Room};
+use codes::{CodeSettings, Pen, Reached, Room};
 
 pub mod places; // addresses at places of a list
 pub mod plain; // words without a code that invokes
 mod with_words; // codes that take words of a list
-
-// Where drawing stands, and the words read so far.
-#[derive(Clone, Copy)]
-pub struct Reached {
-    pub pen: Pen,
-    pub words: u32,
-}
 
 // Codes that all have the latch: without a list, or none of which invokes.
 pub fn draw_plain(

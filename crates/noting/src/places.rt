@@ -18,10 +18,8 @@ pub fn note_run(n: usize, a: u32, at: usize, list: &mut [u32])
     requires { (a / 2 + n ≤ 8388608) × (at ≤ 8000000000) }
     ensures { list.new ≡ sets list.old at (in_turn true n a) }
 {
-    let end = runs::without_list::lesser(at + n, list.len());
-    let mut i = at;
-    while i < end {
+    let end = list.len().min(at + n);
+    for i in at..end {
         list[i] = a + 2 * (i - at) as u32;
-        i += 1;
     }
 }

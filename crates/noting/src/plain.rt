@@ -27,16 +27,14 @@ fn last_plain(mem: &[u16], flag: u16, from: usize, words: usize, k: usize) -> us
     requires { (from + words ≤ length mem.now) × (words ≤ 255) × (k ≤ words) × (some_invoke flag mem.now from k ≡ false) }
     ensures { (result ≤ words) × (some_invoke flag mem.now from result ≡ false) }
 {
-    let mut i = k;
-    while i < words {
+    for i in k..words {
         let w = mem[from + i];
         let first = attribute::invokes(flag, memory::high_byte(w));
         if first | attribute::invokes(flag, memory::low_byte(w)) {
             return i;
         }
-        i += 1;
     }
-    i
+    words
 }
 
 // Does a code of the eight words from number `from` on invoke? Each word is looked at, so that the compiler can compare all at a time.
@@ -45,13 +43,9 @@ fn does_some_invoke(mem: &[u16], flag: u16, from: usize) -> bool
     ensures { result ≡ some_invoke flag mem.now from 8 }
 {
     let mut some = false;
-    let mut i = 0;
-    while i < 8 {
-        let w = mem[from + i];
-        some = some
-            | attribute::invokes(flag, memory::high_byte(w))
-            | attribute::invokes(flag, memory::low_byte(w));
-        i += 1;
+    for w in &mem[from..from + 8] {
+        let first = attribute::invokes(flag, memory::high_byte(*w));
+        some |= first | attribute::invokes(flag, memory::low_byte(*w));
     }
     some
 }

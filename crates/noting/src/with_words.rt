@@ -10,8 +10,8 @@ ghost use Rattle.codes.specs.Answers.{so_far};
 ghost use Rattle.runs.specs.Runs.{examined, in_force, pen_of};
 ghost use Rattle.noting.specs.Noting.{pointing, noted, noting};
 
-use crate::{Reached, places};
-use codes::{CodeSettings, Pen, Room, attribute};
+use crate::places;
+use codes::{CodeSettings, Pen, Reached, Room, attribute};
 use memory::Pointer;
 use runs::with_list;
 use runs::with_list::Cursor;
@@ -68,16 +68,13 @@ fn examine_pairs(
     let from = (first / 2) as usize;
     let pairs = (count / 2) as usize;
     let mut cursor = begun;
-    let mut i = 0;
-    while i < pairs {
-        let w = mem[from + i];
+    for (i, w) in mem[from..from + pairs].iter().enumerate() {
         let at = words as usize + i;
         places::note(first + 2 * i as u32, at + cursor.taken, list);
-        let high = memory::high_byte(w);
+        let high = memory::high_byte(*w);
         cursor = examine(mem, settings, room, high, next, cursor, at + 1, cells, list);
-        let low = memory::low_byte(w);
+        let low = memory::low_byte(*w);
         cursor = examine(mem, settings, room, low, next, cursor, at + 1, cells, list);
-        i += 1;
     }
     cursor
 }

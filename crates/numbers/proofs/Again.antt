@@ -1,4 +1,5 @@
 -- A state that was written is read back as it was, where each of its numbers is one that its field can have.
+use Rattle.std.proofs.Common.{Option, Some, None, is_some}
 use mathlib.Core.Path.{◌≡◌, refl}
 use mathlib.Core.Bool.{Bool, true, false}
 use Prim.Native.Nat.{ℕ, ◌%◌, ◌≤◌}
@@ -7,12 +8,9 @@ use native.Mathlib.Omega.{arith}
 use lib.Dec.{leb}
 use borrow.Author.Tests.{le-leb}
 use Rattle.windows.specs.declared.Window.{Window}
-use Rattle.windows.specs.declared.WindowInHand.{WindowInHand}
-use Rattle.windows.specs.declared.WindowInHand.TheVariants.{Absent, Present}
 use Rattle.state.specs.declared.State.{State}
-use Rattle.numbers.specs.declared.decode.StateIn.TheVariants.{Fit}
 use Rattle.numbers.specs.Decode.{yes, is_state, state_fits, lines_at, format_at, window_at, fields_at, state_in}
-use Rattle.numbers.specs.Encode.{number, is_held, state_numbers}
+use Rattle.numbers.specs.Encode.{number, state_numbers}
 
 pub record WindowHeld (w : Window) : Type 0 where
   pub number : w.block.number ≤ 255
@@ -21,9 +19,9 @@ pub record WindowHeld (w : Window) : Type 0 where
   pub left : w.block.left ≤ 255
   pub right : w.block.right ≤ 255
 
-abbrev pub InHandHeld : WindowInHand → Type 0
-InHandHeld Absent = Unit
-InHandHeld (Present w) = WindowHeld w
+abbrev pub InHandHeld : Option Window → Type 0
+InHandHeld None = Unit
+InHandHeld (Some w) = WindowHeld w
 
 pub record Held (s : State) : Type 0 where
   pub latch : s.latch ≤ 65535
@@ -48,18 +46,18 @@ word-again : (n : ℕ) → n ≤ 65535 → n % 65536 ≡ n
 word-again n h = mod-eq_of_lt (omega arith)
 
 module _ (s : State) (h : Held s) where
-  fits : (w : WindowInHand) → s.fields.window ≡ w → InHandHeld w → state_fits (state_numbers s) ≡ true
+  fits : (w : Option Window) → s.fields.window ≡ w → InHandHeld w → state_fits (state_numbers s) ≡ true
   unfolding state_fits state_numbers
-  fits Absent e g =
+  fits None e g =
       rw (e, le-leb _ _ h.lines, le-leb _ _ h.attributes, le-leb _ _ h.curs, le-leb _ _ h.cure)
-  fits (Present w) e g =
+  fits (Some w) e g =
       rw (e, le-leb _ _ h.lines, le-leb _ _ h.attributes, le-leb _ _ h.curs, le-leb _ _ h.cure)
       (rw (le-leb _ _ g.top, le-leb _ _ g.bottom, le-leb _ _ g.left, le-leb _ _ g.right, le-leb _ _ g.number))
 
-  window-again : (w : WindowInHand) → s.fields.window ≡ w → InHandHeld w → window_at (state_numbers s) ≡ s.fields.window
+  window-again : (w : Option Window) → s.fields.window ≡ w → InHandHeld w → window_at (state_numbers s) ≡ s.fields.window
   unfolding window_at state_numbers
-  window-again Absent e g = rw e
-  window-again (Present w) e g =
+  window-again None e g = rw e
+  window-again (Some w) e g =
       rw (e, byte-again _ g.top, byte-again _ g.bottom, byte-again _ g.left, byte-again _ g.right, byte-again _ g.number)
 
   mark-fits : (b : Bool) → leb (number b) 1 ≡ true
@@ -75,7 +73,7 @@ module _ (s : State) (h : Held s) where
         le-leb _ _ h.y,
         le-leb _ _ h.code,
         mark-fits s.fields.fill.flag,
-        mark-fits (is_held s.fields.window),
+        mark-fits (is_some s.fields.window),
       )
 
   format-again : format_at (state_numbers s) ≡ s.fields.format
@@ -95,6 +93,6 @@ module _ (s : State) (h : Held s) where
       rw (format-again, window-again s.fields.window refl h.window, bool-again s.fields.fill.flag)
       (rw (min-eq_left h.left, byte-again _ h.x, byte-again _ h.y, byte-again _ h.code))
 
-  pub state-again : state_in (state_numbers s) ≡ Fit s
+  pub state-again : state_in (state_numbers s) ≡ Some s
   unfolding state_in state_numbers
   state-again = rw (is_state_lem, fields-again, word-again _ h.latch)

@@ -1,4 +1,3 @@
 pub mod PlaceLaws
-pub mod LengthLaws
 pub mod Again
 pub mod Judged

@@ -8,13 +8,9 @@ use native.Mathlib.Numerals.{add-one}
 use native.Mathlib.Omega.{arith}
 use lib.ListN.{length, get_or, drop, drop_of_length-le}
 use lib.Seq.{drop-cons, get_or-drop, drop-drop}
-use lib.Dec.{leb, eqb}
-use borrow.Author.Tests.{le-leb, lt-leb, leb-true, eqb-true}
-use Rattle.memory.specs.Word.{when◌then◌else◌}
-use Rattle.state.specs.declared.State.{State}
-use Rattle.numbers.specs.declared.decode.StateIn.TheVariants.{Fit, Unfit}
+use lib.Dec.{leb}
+use borrow.Author.Tests.{le-leb, lt-leb, leb-true}
 use Rattle.numbers.specs.Places.{within, Below, Within}
-use Rattle.numbers.specs.Decode.{state_at, unjudged_fit, is_state, state_in}
 
 left-true : (a b : Bool) → a && b ≡ true → a ≡ true
 left-true true b e = refl
@@ -73,16 +69,3 @@ below i (l ∷ ls) xs e =
 
 pub all-within : (ls xs : List ℕ) → within ls xs ≡ true → Within ls xs
 all-within ls xs e = (size ls xs e, below 0 ls xs e)
-
--- a state's numbers are 23
-taken : (b : Bool) (t s : State) → (when b then Fit t else Unfit) ≡ Fit s → b ≡ true
-taken true t s e = refl
-taken false t s e = cc
-
-pub is-state-size : (xs : List ℕ) → is_state xs ≡ true → length xs ≡ 23
-unfolding is_state
-is-state-size xs e = eqb-true (length xs) 23 (left-true (eqb (length xs) 23) (unjudged_fit xs) e)
-
-pub state-size : (xs : List ℕ) (s : State) → state_in xs ≡ Fit s → length xs ≡ 23
-unfolding state_in
-state-size xs s e = is-state-size xs (taken (is_state xs) (state_at xs) s e)

@@ -1,30 +1,18 @@
 -- Settings and a state, from numbers at their places.
-use Rattle.std.specs.Prelude.{ℕ, ◌%◌, min, Bool, ◌&&◌, List, length, eqb, leb}
+use Rattle.std.specs.Prelude.{ℕ, ◌%◌, min, Bool, ◌&&◌, List, length, eqb, leb, Option, Some, None}
 use Rattle.memory.specs.Word.{when◌then◌else◌, at, low}
 use Rattle.memory.specs.declared.Pointer.{Pointer}
-use Rattle.settings.specs.declared.Edition.{Edition}
-use Rattle.settings.specs.declared.Edition.TheVariants.{Am8052, Z8052}
 use Rattle.settings.specs.declared.Settings.{Settings}
-use Rattle.settings.specs.Good.{interlace_of}
+use Rattle.settings.specs.Good.{interlace_of, edition_of}
 use Rattle.blocks.specs.declared.RowFormat.{RowFormat}
 use Rattle.windows.specs.declared.Window.{Window}
-use Rattle.windows.specs.declared.WindowInHand.{WindowInHand}
-use Rattle.windows.specs.declared.WindowInHand.TheVariants.{Absent, Present}
 use Rattle.state.specs.declared.Fields.{Fields}
 use Rattle.state.specs.declared.State.{State}
 use Rattle.state.specs.State.{state_of}
-use Rattle.numbers.specs.declared.decode.SettingsIn.{SettingsIn}
-use Rattle.numbers.specs.declared.decode.SettingsIn.TheVariants as Settings-in
-use Rattle.numbers.specs.declared.decode.StateIn.{StateIn}
-use Rattle.numbers.specs.declared.decode.StateIn.TheVariants as State-in
 
 -- 0 is no, 1 is yes
 abbrev pub yes : ℕ → Bool
 yes n = eqb n 1
-
--- edition 0 Am8052 1 Z8052
-abbrev pub edition_of : ℕ → Edition
-edition_of n = when eqb n 0 then Am8052 else Z8052
 
 -- as much of a number as 16 bits hold
 abbrev pub held : ℕ → ℕ
@@ -66,8 +54,8 @@ settings_at xs = record {
 }
 
 -- settings in numbers, or that there are too few or too many
-unfoldable pub settings_in : List ℕ → SettingsIn
-settings_in xs = when eqb (length xs) 18 then Settings-in.Fit (settings_at xs) else Settings-in.Unfit
+unfoldable pub settings_in : List ℕ → Option Settings
+settings_in xs = when eqb (length xs) 18 then Some (settings_at xs) else None
 
 -- what refusal 3 judges, within its field's range: scan lines, row attributes, CURS, CURE; where there is a window, its number, first row,
 -- last row, first column and last column. The row, the lines left and addresses are held whatever they are
@@ -105,8 +93,8 @@ held_at xs = record {
 }
 
 -- where there is no window, the numbers in its places mean nothing
-unfoldable pub window_at : List ℕ → WindowInHand
-window_at xs = when yes (at xs 12) then Present (held_at xs) else Absent
+unfoldable pub window_at : List ℕ → Option Window
+window_at xs = when yes (at xs 12) then Some (held_at xs) else None
 
 -- lines left past 16 bits are more than 4095 as they are held; a row beside the cut is given one line whatever they are
 unfoldable pub fields_at : List ℕ → Fields
@@ -131,5 +119,5 @@ unfoldable pub is_state : List ℕ → Bool
 is_state xs = eqb (length xs) 23 && unjudged_fit xs
 
 -- a state in numbers, or that the numbers are none: too few, too many, or one that refusal 3 does not judge past its field's range
-unfoldable pub state_in : List ℕ → StateIn
-state_in xs = when is_state xs then State-in.Fit (state_at xs) else State-in.Unfit
+unfoldable pub state_in : List ℕ → Option State
+state_in xs = when is_state xs then Some (state_at xs) else None

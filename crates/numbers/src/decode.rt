@@ -2,44 +2,28 @@
 ghost use Rattle.std.specs.Prelude.{◌≡◌, ◌%◌, length};
 ghost use Rattle.memory.specs.Word.{at, low};
 ghost use Rattle.numbers.specs.Places.{within};
-ghost use Rattle.numbers.specs.Decode.{edition_of, held, modes_fit, htd_at, settings_at, settings_in, format_fits, window_fits, state_fits, lines_at, format_at, held_at, window_at, fields_at, state_at, unjudged_fit, is_state, state_in};
+ghost use Rattle.numbers.specs.Decode.{held, modes_fit, htd_at, settings_at, settings_in, format_fits, window_fits, state_fits, lines_at, format_at, held_at, window_at, fields_at, state_at, unjudged_fit, is_state, state_in};
 
 use blocks::{Cursor, FillMode, RowFormat};
 use memory::Pointer;
-use settings::{Edition, PointerWords, Settings};
+use settings::{Edition, Interlace, PointerWords, Settings};
 use state::{Fields, State};
-use windows::{Window, WindowBlock, WindowInHand};
+use windows::{Window, WindowBlock};
 
-// Settings, or that the numbers are none: too few or too many.
-#[derive(Clone, Copy)]
-pub enum SettingsIn {
-    Fit(Settings),
-    Unfit,
-}
-
-// A state, or that the numbers are none: too few, too many, or one past its field's range that refusal 3 does not judge.
-#[derive(Clone, Copy)]
-pub enum StateIn {
-    Fit(State),
-    Unfit,
-}
-
-pub fn settings_in(n: &[u32]) -> SettingsIn
+// Settings from 18 numbers; other slices are none.
+#[tactic(auto, unfolding(crate::specs::Decode::settings_in))]
+pub fn settings_in(n: &[u32]) -> Option<Settings>
     ensures { result ≡ settings_in n.now }
 {
-    if n.len() == 18 {
-        SettingsIn::Fit(settings_at(n))
-    } else {
-        SettingsIn::Unfit
-    }
+    Some(settings_at(n.as_array()?))
 }
 
-fn settings_at(n: &[u32]) -> Settings
-    requires { length n.now ≡ 18 }
+// Settings from their numbers; one past its field's range makes settings that are not good.
+pub fn settings_at(n: &[u32; 18]) -> Settings
     ensures { result ≡ settings_at n.now }
 {
-    let interlace = settings::interlace_of(n[2]);
-    let edition = edition_of(n[17]);
+    let interlace = Interlace::from(n[2]);
+    let edition = Edition::from(n[17]);
     let vsw = held(n[9]);
     let vsd = held(n[10]);
     let val = held(n[11]);
@@ -77,8 +61,8 @@ fn settings_at(n: &[u32]) -> Settings
 }
 
 // HTD; 0, which is not good, where a number of a mode is past its field's range.
-fn htd_at(n: &[u32]) -> u16
-    requires { length n.now ≡ 18 }
+#[tactic(auto, unfolding(crate::specs::Decode::htd_at))]
+fn htd_at(n: &[u32; 18]) -> u16
     ensures { result ≡ htd_at n.now }
 {
     let htd = held(n[16]);
@@ -86,8 +70,8 @@ fn htd_at(n: &[u32]) -> u16
 }
 
 // Every test of a range is made (`&`), so there is one way through.
-fn modes_fit(n: &[u32]) -> bool
-    requires { length n.now ≡ 18 }
+#[tactic(auto, unfolding(crate::specs::Decode::modes_fit))]
+fn modes_fit(n: &[u32; 18]) -> bool
     ensures { result ≡ modes_fit n.now }
 {
     (n[0] <= 1)
@@ -106,48 +90,37 @@ fn modes_fit(n: &[u32]) -> bool
 fn held(number: u32) -> u16
     ensures { result ≡ held number }
 {
-    if number < 65535 { number as u16 } else { 65535 }
+    u16::try_from(number).unwrap_or(u16::MAX)
 }
 
-fn edition_of(number: u32) -> Edition
-    ensures { result ≡ edition_of number }
-{
-    if number == 0 {
-        Edition::Am8052
-    } else {
-        Edition::Z8052
-    }
-}
-
-pub fn state_in(n: &[u32]) -> StateIn
+// A state from 23 numbers; other slices are none.
+#[tactic(auto, unfolding(crate::specs::Decode::is_state, crate::specs::Decode::state_in))]
+pub fn state_in(n: &[u32]) -> Option<State>
     ensures { result ≡ state_in n.now }
 {
-    if is_state(n) {
-        StateIn::Fit(state_at(n))
-    } else {
-        StateIn::Unfit
-    }
+    state_from(n.as_array()?)
 }
 
-fn is_state(n: &[u32]) -> bool
-    ensures { result ≡ is_state n.now }
+// A state from its numbers, where those that refusal 3 does not judge are in their fields' ranges.
+pub fn state_from(n: &[u32; 23]) -> Option<State>
+    ensures { result ≡ state_in n.now }
 {
-    if n.len() == 23 {
-        unjudged_fit(n)
+    if unjudged_fit(n) {
+        Some(state_at(n))
     } else {
-        false
+        None
     }
 }
 
-fn unjudged_fit(n: &[u32]) -> bool
-    requires { length n.now ≡ 23 }
+// Are the numbers that refusal 3 does not judge within their fields' ranges?
+fn unjudged_fit(n: &[u32; 23]) -> bool
     ensures { result ≡ unjudged_fit n.now }
 {
     (n[0] <= 65535) & (n[3] <= 255) & (n[4] <= 255) & (n[5] <= 255) & (n[6] <= 1) & (n[12] <= 1)
 }
 
-fn state_at(n: &[u32]) -> State
-    requires { length n.now ≡ 23 }
+// A state, of each number as much as its field holds.
+fn state_at(n: &[u32; 23]) -> State
     ensures { result ≡ state_at n.now }
 {
     let fields = fields_at(n);
@@ -157,8 +130,9 @@ fn state_at(n: &[u32]) -> State
     }
 }
 
-fn fields_at(n: &[u32]) -> Fields
-    requires { length n.now ≡ 23 }
+// A state's fields but the latch.
+#[tactic(auto, unfolding(crate::specs::Decode::fields_at))]
+fn fields_at(n: &[u32; 23]) -> Fields
     ensures { result ≡ fields_at n.now }
 {
     let left = held(n[2]);
@@ -187,8 +161,9 @@ fn fields_at(n: &[u32]) -> Fields
     }
 }
 
-fn format_at(n: &[u32]) -> RowFormat
-    requires { length n.now ≡ 23 }
+// The format of rows, whose lines are out of range where it, or the window, is past a field's range.
+#[tactic(auto, unfolding(crate::specs::Decode::format_at))]
+fn format_at(n: &[u32; 23]) -> RowFormat
     ensures { result ≡ format_at n.now }
 {
     let lines = lines_at(n);
@@ -201,15 +176,16 @@ fn format_at(n: &[u32]) -> RowFormat
 }
 
 // Scan lines; 0, which are out of range, where a number that refusal 3 judges is past its field's range.
-fn lines_at(n: &[u32]) -> u8
-    requires { length n.now ≡ 23 }
+#[tactic(auto, unfolding(crate::specs::Decode::lines_at))]
+fn lines_at(n: &[u32; 23]) -> u8
     ensures { result ≡ lines_at n.now }
 {
     if state_fits(n) { (n[7] % 256) as u8 } else { 0 }
 }
 
-fn state_fits(n: &[u32]) -> bool
-    requires { length n.now ≡ 23 }
+// Are the numbers that refusal 3 judges within their fields' ranges? Those of a window are judged where there is one.
+#[tactic(auto, unfolding(crate::specs::Decode::state_fits))]
+fn state_fits(n: &[u32; 23]) -> bool
     ensures { result ≡ state_fits n.now }
 {
     if n[12] == 1 {
@@ -219,33 +195,30 @@ fn state_fits(n: &[u32]) -> bool
     }
 }
 
-fn format_fits(n: &[u32]) -> bool
-    requires { length n.now ≡ 23 }
+// Those of the format.
+fn format_fits(n: &[u32; 23]) -> bool
     ensures { result ≡ format_fits n.now }
 {
     (n[7] <= 255) & (n[8] <= 65535) & (n[9] <= 255) & (n[10] <= 255)
 }
 
-fn window_fits(n: &[u32]) -> bool
-    requires { length n.now ≡ 23 }
+// Those of a window.
+fn window_fits(n: &[u32; 23]) -> bool
     ensures { result ≡ window_fits n.now }
 {
     (n[13] <= 255) & (n[14] <= 255) & (n[15] <= 255) & (n[16] <= 255) & (n[19] <= 255)
 }
 
-fn window_at(n: &[u32]) -> WindowInHand
-    requires { length n.now ≡ 23 }
+// The window in hand, where there is one.
+#[tactic(auto, unfolding(crate::specs::Decode::window_at))]
+fn window_at(n: &[u32; 23]) -> Option<Window>
     ensures { result ≡ window_at n.now }
 {
-    if n[12] == 1 {
-        WindowInHand::Present(held_at(n))
-    } else {
-        WindowInHand::Absent
-    }
+    if n[12] == 1 { Some(held_at(n)) } else { None }
 }
 
-fn held_at(n: &[u32]) -> Window
-    requires { length n.now ≡ 23 }
+// The numbers of a window.
+fn held_at(n: &[u32; 23]) -> Window
     ensures { result ≡ held_at n.now }
 {
     let link = Pointer {
@@ -274,12 +247,10 @@ pub fn within(limits: &[u32], numbers: &[u32]) -> bool
     if numbers.len() != limits.len() {
         return false;
     }
-    let mut i = 0;
-    while i < limits.len() {
+    for i in 0..limits.len() {
         if limits[i] < numbers[i] {
             return false;
         }
-        i += 1;
     }
     true
 }

@@ -1,4 +1,5 @@
 -- What glides from line to line: up, the place of rows one after the other; down, the row above's last lines, and then the frame's rows.
+use Rattle.std.proofs.Common.{Option, Some, None}
 use mathlib.Core.Path.{◌≡◌, refl, ap, sym, ◌∙◌}
 use mathlib.Core.Bool.{Bool, true, false}
 use mathlib.Core.List.{List}
@@ -12,8 +13,6 @@ use borrow.Author.Tests.{ltb-true, ltb-false, lt-ltb, le-ltb, leb-true, leb-fals
 use Rattle.memory.specs.Word.{when◌then◌else◌}
 use Rattle.memory.proofs.ReadBounds.{if-cases}
 use Rattle.panel.specs.declared.Place.{Place}
-use Rattle.panel.specs.declared.Placed.{Placed}
-use Rattle.panel.specs.declared.Placed.TheVariants.{Nowhere, At}
 use Rattle.panel.specs.declared.Background.{Background}
 use Rattle.panel.specs.declared.Background.TheVariants.{Nothing, Row, Above}
 use Rattle.panel.specs.Line.{place_at, place, row_at, above_at, is_down, background}
@@ -34,21 +33,21 @@ tall-first rows heights t i there =
     rw (get_or-take rows heights i 0 first) (t i (omega arith))
 
 -- a background of rows alone
-next_row : (hs : List ℕ) (q : Placed) → row_at (next hs q) ≡ next_background hs (row_at q)
-next_row hs Nowhere = refl
-next_row hs (At p) = refl
+next_row : (hs : List ℕ) (q : Option Place) → row_at (next hs q) ≡ next_background hs (row_at q)
+next_row hs None = refl
+next_row hs (Some p) = refl
 
-pub row_of : (q : Placed) (p : Place) → row_at q ≡ Row p → q ≡ At p
-row_of Nowhere p h = let z : ◌≡◌ {A = ℕ} 0 1 = cc in absurd (omega arith)
-row_of (At q) p h = cc
+pub row_of : (q : Option Place) (p : Place) → row_at q ≡ Row p → q ≡ Some p
+row_of None p h = let z : ◌≡◌ {A = ℕ} 0 1 = cc in absurd (omega arith)
+row_of (Some q) p h = cc
 
-row-not-above : (q : Placed) (p : Place) → row_at q ≡ Above p → ⊥
-row-not-above Nowhere p h = let z : ◌≡◌ {A = ℕ} 0 1 = cc in omega arith
-row-not-above (At q) p h = let z : ◌≡◌ {A = ℕ} 0 1 = cc in omega arith
+row-not-above : (q : Option Place) (p : Place) → row_at q ≡ Above p → ⊥
+row-not-above None p h = let z : ◌≡◌ {A = ℕ} 0 1 = cc in omega arith
+row-not-above (Some q) p h = let z : ◌≡◌ {A = ℕ} 0 1 = cc in omega arith
 
-pub none_of : (q : Placed) → row_at q ≡ Nothing → q ≡ Nowhere
-none_of Nowhere h = refl
-none_of (At q) h = let z : ◌≡◌ {A = ℕ} 0 1 = cc in absurd (omega arith)
+pub none_of : (q : Option Place) → row_at q ≡ Nothing → q ≡ None
+none_of None h = refl
+none_of (Some q) h = let z : ◌≡◌ {A = ℕ} 0 1 = cc in absurd (omega arith)
 
 -- the row above, of height h, on line y of the first d
 module _ (h d y : ℕ) (first : y < d) where
@@ -128,14 +127,14 @@ module _ (d above : ℕ) (heights : List ℕ) (rows : ℕ) where
             rw (down-later y s, down-later (suc y) (omega arith), there, place-follows frame (tall-first rows heights tall) (y - d)) (next_row frame (place frame (y - d)))
 
     -- where a row stands still on a line, no line before it is past the frame's rows
-    pub frame-there : (y z : ℕ) (s : Place) → z ≤ y → place frame y ≡ At s → place frame z ≡ Nowhere → ⊥
+    pub frame-there : (y z : ℕ) (s : Place) → z ≤ y → place frame y ≡ Some s → place frame z ≡ None → ⊥
     frame-there y z s before e none =
         let past = place_none frame (tall-first rows heights tall) z (y - z) none in
         let same : z + (y - z) ≡ y = omega arith in
         let gone = rw same at past in
         let z : ◌≡◌ {A = ℕ} 0 1 = cc in omega arith
 
-    down-stays : (y : ℕ) (s : Place) → (down y ≡ Nothing → ⊥) → place frame (suc y) ≡ At s → down (suc y) ≡ Nothing → ⊥
+    down-stays : (y : ℕ) (s : Place) → (down y ≡ Nothing → ⊥) → place frame (suc y) ≡ Some s → down (suc y) ≡ Nothing → ⊥
     down-stays y s some e none = by (ltb (suc y) d) refl
       where
         by : (b : Bool) → ltb (suc y) d ≡ b → ⊥
@@ -149,10 +148,10 @@ module _ (d above : ℕ) (heights : List ℕ) (rows : ℕ) where
             let s' = ltb-false (suc y) d t in
             frame-there (suc y) (suc y - d) s (omega arith) e (none_of (place frame (suc y - d)) (sym (down-later (suc y) s') ∙ none))
 
-  pub down-row : (y : ℕ) (p : Place) → down y ≡ Row p → (d ≤ y) × (place frame (y - d) ≡ At p)
+  pub down-row : (y : ℕ) (p : Place) → down y ≡ Row p → (d ≤ y) × (place frame (y - d) ≡ Some p)
   down-row y p e = by (ltb y d) refl
     where
-      by : (b : Bool) → ltb y d ≡ b → (d ≤ y) × (place frame (y - d) ≡ At p)
+      by : (b : Bool) → ltb y d ≡ b → (d ≤ y) × (place frame (y - d) ≡ Some p)
       by true t = let s = ltb-true y d t in absurd (not-row above d y s p (sym (down-first y s) ∙ e))
       by false t = let s = ltb-false y d t in (s, row_of (place frame (y - d)) p (sym (down-later y s) ∙ e))
 

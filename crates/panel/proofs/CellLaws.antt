@@ -5,9 +5,9 @@ use Prim.Native.Nat.{ℕ, zero, suc, ◌+◌, ◌<◌}
 use native.Mathlib.Omega.{arith}
 use native.Mathlib.Numerals.{add-one}
 use native.Mathlib.Nat.{zero-add}
-use lib.ListN.{length, get_or, replicate, take, set}
+use lib.ListN.{length, replicate, take, set}
 use lib.Seq.{take-suc-set}
-use Rattle.panel.specs.Shown.{Layer, nothing, gliding_cell, background_cell, shown_cell, cells_from, shown_by, shown}
+use Rattle.panel.specs.Shown.{Layer, nothing, shown_cell, cells_from, shown_by, shown}
 use Rattle.panel.specs.Answers.{shown_in}
 
 cells-more : (f : ℕ → ℕ) (n x : ℕ) → cells_from f (suc n) x ≡ cells_from f n x ++ (f (x + n) ∷ [])
@@ -33,21 +33,7 @@ pub shown-columns : (s b : Layer) (behind : List ℕ) → shown s b behind ≡ c
 unfolding shown
 shown-columns s b behind = by-columns s b behind s.cells
 
--- the cell of a row, where it is there, whatever else stands for one past its end
-pub cell-there : (d e : ℕ) (cells : List ℕ) (x : ℕ) → x < length cells → get_or cells x d ≡ get_or cells x e
-cell-there d e [] x h = absurd (omega arith)
-cell-there d e (c ∷ cs) zero h = refl
-cell-there d e (c ∷ cs) (suc x) h = cell-there d e cs x (omega arith)
-
--- no row, by its count
-pub no_cells : (cells : List ℕ) → length cells ≡ 0 → cells ≡ []
-no_cells [] h = refl
-no_cells (c ∷ cs) h = absurd (omega arith)
-
-pub glides : (b : Layer) (behind cells : List ℕ) (x : ℕ) → (length cells ≡ 0 → ⊥) → background_cell b behind cells x ≡ gliding_cell b behind x
-glides b behind [] x h = absurd (h refl)
-glides b behind (c ∷ cs) x h = refl
-
+-- a row that stands still, by its count
 pub stands : (s b : Layer) (behind cells : List ℕ) (x : ℕ) → (length cells ≡ 0 → ⊥) → shown_in s b behind cells x ≡ shown_cell s b behind x
 stands s b behind [] x h = absurd (h refl)
 stands s b behind (c ∷ cs) x h = refl

@@ -1,4 +1,5 @@
 -- The lines of rows one after the other: from each to the next, and how far a row goes.
+use Rattle.std.proofs.Common.{Option, Some, None}
 use mathlib.Core.Path.{◌≡◌, refl, ap, sym}
 use mathlib.Core.Bool.{Bool, true, false}
 use mathlib.Core.List.{List, [], ◌∷◌}
@@ -10,8 +11,6 @@ use borrow.Author.Tests.{ltb-true, ltb-false, lt-ltb, le-ltb}
 use Rattle.memory.specs.Word.{when◌then◌else◌}
 use Rattle.memory.proofs.ReadBounds.{if-cases}
 use Rattle.panel.specs.declared.Place.{Place}
-use Rattle.panel.specs.declared.Placed.{Placed}
-use Rattle.panel.specs.declared.Placed.TheVariants.{Nowhere, At}
 use Rattle.panel.specs.Line.{place_at, later, place}
 use Rattle.panel.specs.Lines.{Tall, row_from, next, Within, PlaceFollows, on}
 
@@ -21,16 +20,16 @@ tail h hs t i there = t (suc i) (omega arith)
 later-row : (h : ℕ) (hs : List ℕ) (i : ℕ) → later (row_from hs i) ≡ row_from (h ∷ hs) (suc i)
 later-row h hs i = rw (leb-suc-suc (suc i) (length hs)) (by (ltb i (length hs)))
   where
-    by : (b : Bool) → later (when b then At (place_at i 0 (get_or hs i 0)) else Nowhere) ≡ (when b then At (place_at (suc i) 0 (get_or hs i 0)) else Nowhere)
+    by : (b : Bool) → later (when b then Some (place_at i 0 (get_or hs i 0)) else None) ≡ (when b then Some (place_at (suc i) 0 (get_or hs i 0)) else None)
     by true = refl
     by false = refl
 
-later-next : (h : ℕ) (hs : List ℕ) (q : Placed) → later (next hs q) ≡ next (h ∷ hs) (later q)
-later-next h hs Nowhere = refl
-later-next h hs (At p) = by (ltb 1 p.left)
+later-next : (h : ℕ) (hs : List ℕ) (q : Option Place) → later (next hs q) ≡ next (h ∷ hs) (later q)
+later-next h hs None = refl
+later-next h hs (Some p) = by (ltb 1 p.left)
   where
-    by : (b : Bool) → later (when b then At (place_at p.index (suc p.line) (p.left - 1)) else row_from hs (suc p.index))
-        ≡ (when b then At (place_at (suc p.index) (suc p.line) (p.left - 1)) else row_from (h ∷ hs) (suc (suc p.index)))
+    by : (b : Bool) → later (when b then Some (place_at p.index (suc p.line) (p.left - 1)) else row_from hs (suc p.index))
+        ≡ (when b then Some (place_at (suc p.index) (suc p.line) (p.left - 1)) else row_from (h ∷ hs) (suc (suc p.index)))
     by true = refl
     by false = later-row h hs (suc p.index)
 
@@ -46,14 +45,14 @@ pub place-follows : PlaceFollows
 unfolding place
 place-follows [] t z = refl
 place-follows (h ∷ hs) t z =
-    if-cases (λ (q : Placed). place (h ∷ hs) (suc z) ≡ next (h ∷ hs) q) (ltb z h) (λ s. here (ltb-true z h s) (ltb (suc z) h) refl) (λ s. past (ltb-false z h s) (place-follows hs (tail h hs t) (z - h)))
+    if-cases (λ (q : Option Place). place (h ∷ hs) (suc z) ≡ next (h ∷ hs) q) (ltb z h) (λ s. here (ltb-true z h s) (ltb (suc z) h) refl) (λ s. past (ltb-false z h s) (place-follows hs (tail h hs t) (z - h)))
   where
     past : h ≤ z → place hs (suc (z - h)) ≡ next hs (place hs (z - h)) → place (h ∷ hs) (suc z) ≡ next (h ∷ hs) (later (place hs (z - h)))
     past s follows =
         let e : suc z - h ≡ suc (z - h) = omega arith in
         rw (le-ltb (suc z) h (omega arith), e, follows) (later-next h hs (place hs (z - h)))
 
-    here : z < h → (b : Bool) → ltb (suc z) h ≡ b → place (h ∷ hs) (suc z) ≡ next (h ∷ hs) (At (place_at 0 z (h - z)))
+    here : z < h → (b : Bool) → ltb (suc z) h ≡ b → place (h ∷ hs) (suc z) ≡ next (h ∷ hs) (Some (place_at 0 z (h - z)))
     here s true more =
         let below = ltb-true (suc z) h more in
         let e : h - suc z ≡ h - z - 1 = omega arith in
@@ -63,13 +62,13 @@ place-follows (h ∷ hs) t z =
         let e : suc z - h ≡ 0 = omega arith in
         rw (more, le-ltb 1 (h - z) (omega arith), e, first-place hs (tail h hs t)) (later-row h hs 0)
 
-abbrev PlacedWithin : List ℕ → Placed → Type 0
-PlacedWithin hs Nowhere = Unit
-PlacedWithin hs (At p) = Within hs p
+abbrev PlacedWithin : List ℕ → Option Place → Type 0
+PlacedWithin hs None = Unit
+PlacedWithin hs (Some p) = Within hs p
 
-later-within : (h : ℕ) (hs : List ℕ) (q : Placed) → PlacedWithin hs q → PlacedWithin (h ∷ hs) (later q)
-later-within h hs Nowhere w = tt
-later-within h hs (At p) w = record { index = omega arith; height = w.height; some = w.some }
+later-within : (h : ℕ) (hs : List ℕ) (q : Option Place) → PlacedWithin hs q → PlacedWithin (h ∷ hs) (later q)
+later-within h hs None w = tt
+later-within h hs (Some p) w = record { index = omega arith; height = w.height; some = w.some }
 
 within : (hs : List ℕ) (z : ℕ) → PlacedWithin hs (place hs z)
 unfolding place
@@ -79,12 +78,12 @@ within (h ∷ hs) z =
     (λ s. let below = ltb-true z h s in record { index = omega arith; height = omega arith; some = omega arith })
     (λ s. later-within h hs (place hs (z - h)) (within hs (z - h)))
 
-pub place-within : (hs : List ℕ) (z : ℕ) (p : Place) → place hs z ≡ At p → Within hs p
+pub place-within : (hs : List ℕ) (z : ℕ) (p : Place) → place hs z ≡ Some p → Within hs p
 place-within hs z p e = rw e at (within hs z)
 
 -- k lines on in a row, and the line after its last
-module _ (hs : List ℕ) (tall : Tall hs) (z : ℕ) (p : Place) (e : place hs z ≡ At p) where
-  pub place-on : (k : ℕ) → k < p.left → place hs (z + k) ≡ At (on k p)
+module _ (hs : List ℕ) (tall : Tall hs) (z : ℕ) (p : Place) (e : place hs z ≡ Some p) where
+  pub place-on : (k : ℕ) → k < p.left → place hs (z + k) ≡ Some (on k p)
   place-on zero few =
       let here : z + 0 ≡ z = omega arith in
       let l : p.line + 0 ≡ p.line = omega arith in
@@ -103,31 +102,31 @@ module _ (hs : List ℕ) (tall : Tall hs) (z : ℕ) (p : Place) (e : place hs z 
       rw (last, place-follows hs tall (z + (p.left - 1)), place-on (p.left - 1) (omega arith), le-ltb 1 (p.left - (p.left - 1)) (omega arith))
 
 -- the place in the first rows is the place in all
-later-at : (x y : Placed) (s : Place) → ((q : Place) → x ≡ At q → y ≡ At q) → later x ≡ At s → later y ≡ At s
-later-at Nowhere y s f h = let z : ◌≡◌ {A = ℕ} 0 1 = cc in absurd (omega arith)
-later-at (At q) y s f h = rw (f q refl) h
+later-at : (x y : Option Place) (s : Place) → ((q : Place) → x ≡ Some q → y ≡ Some q) → later x ≡ Some s → later y ≡ Some s
+later-at None y s f h = let z : ◌≡◌ {A = ℕ} 0 1 = cc in absurd (omega arith)
+later-at (Some q) y s f h = rw (f q refl) h
 
-pub place-first : (n : ℕ) (hs : List ℕ) (z : ℕ) (s : Place) → place (take n hs) z ≡ At s → place hs z ≡ At s
+pub place-first : (n : ℕ) (hs : List ℕ) (z : ℕ) (s : Place) → place (take n hs) z ≡ Some s → place hs z ≡ Some s
 unfolding place
 place-first zero hs z s h = let z : ◌≡◌ {A = ℕ} 0 1 = cc in absurd (omega arith)
 place-first (suc n) [] z s h = let z : ◌≡◌ {A = ℕ} 0 1 = cc in absurd (omega arith)
 place-first (suc n) (x ∷ xs) z s h = by (ltb z x) (place-first n xs (z - x)) h
   where
-    by : (b : Bool) → ((q : Place) → place (take n xs) (z - x) ≡ At q → place xs (z - x) ≡ At q) → (when b then At (place_at 0 z (x - z)) else later (place (take n xs) (z - x))) ≡ At s
-        → (when b then At (place_at 0 z (x - z)) else later (place xs (z - x))) ≡ At s
+    by : (b : Bool) → ((q : Place) → place (take n xs) (z - x) ≡ Some q → place xs (z - x) ≡ Some q) → (when b then Some (place_at 0 z (x - z)) else later (place (take n xs) (z - x))) ≡ Some s
+        → (when b then Some (place_at 0 z (x - z)) else later (place xs (z - x))) ≡ Some s
     by true rest h = h
     by false rest h = later-at (place (take n xs) (z - x)) (place xs (z - x)) s rest h
 
 -- past the rows there are none
-pub place_none : (hs : List ℕ) → Tall hs → (z k : ℕ) → place hs z ≡ Nowhere → place hs (z + k) ≡ Nowhere
+pub place_none : (hs : List ℕ) → Tall hs → (z k : ℕ) → place hs z ≡ None → place hs (z + k) ≡ None
 place_none hs tall z zero e = let here : z + 0 ≡ z = omega arith in rw here e
 place_none hs tall z (suc k) e =
     let there : z + suc k ≡ suc (z + k) = omega arith in
     rw (there, place-follows hs tall (z + k), place_none hs tall z k e)
 
 -- the row that `row_from` gives is the one it was asked for
-pub row-index : (hs : List ℕ) (i : ℕ) (t : Place) → row_from hs i ≡ At t → t.index ≡ i
-row-index hs i t = if-cases (λ (q : Placed). q ≡ At t → t.index ≡ i) (ltb i (length hs)) (λ s e. index_of e) (λ s e. let z : ◌≡◌ {A = ℕ} 0 1 = cc in absurd (omega arith))
+pub row-index : (hs : List ℕ) (i : ℕ) (t : Place) → row_from hs i ≡ Some t → t.index ≡ i
+row-index hs i t = if-cases (λ (q : Option Place). q ≡ Some t → t.index ≡ i) (ltb i (length hs)) (λ s e. index_of e) (λ s e. let z : ◌≡◌ {A = ℕ} 0 1 = cc in absurd (omega arith))
   where
-    index_of : At (place_at i 0 (get_or hs i 0)) ≡ At t → t.index ≡ i
+    index_of : Some (place_at i 0 (get_or hs i 0)) ≡ Some t → t.index ≡ i
     index_of e = let same : place_at i 0 (get_or hs i 0) ≡ t = cc in sym (ap (λ (q : Place). q.index) same)

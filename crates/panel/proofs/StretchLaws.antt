@@ -1,4 +1,5 @@
 -- A stretch: the lines that `line` counts have its two rows, and the line after them has not both.
+use Rattle.std.proofs.Common.{Option, Some, None}
 use mathlib.Core.Path.{◌≡◌, refl, ap, sym, ◌∙◌}
 use mathlib.Core.Bool.{Bool, true, false}
 use mathlib.Core.List.{List, [], ◌∷◌}
@@ -10,8 +11,6 @@ use lib.Dec.{ltb}
 use borrow.Author.Tests.{ltb-true, ltb-false}
 use Rattle.memory.proofs.ReadBounds.{if-cases}
 use Rattle.panel.specs.declared.Place.{Place}
-use Rattle.panel.specs.declared.Placed.{Placed}
-use Rattle.panel.specs.declared.Placed.TheVariants.{Nowhere, At}
 use Rattle.panel.specs.declared.Background.{Background}
 use Rattle.panel.specs.declared.Background.TheVariants.{Nothing, Row, Above}
 use Rattle.panel.specs.Line.{place, row_at, is_down, background, still, background_lines, line}
@@ -21,19 +20,19 @@ use Rattle.panel.proofs.BackgroundLaws.{tall-first, row_of, none_of, above-there
 
 -- a row that follows another is not it
 other_row : (hs : List ℕ) (i : ℕ) → which (row_at (row_from hs (suc i))) ≡ (1 ∷ i ∷ []) → ⊥
-other_row hs i = if-cases (λ (q : Placed). which (row_at q) ≡ (1 ∷ i ∷ []) → ⊥) (ltb (suc i) (length hs))
+other_row hs i = if-cases (λ (q : Option Place). which (row_at q) ≡ (1 ∷ i ∷ []) → ⊥) (ltb (suc i) (length hs))
     (λ s e. let same : suc i ≡ i = cc in omega arith)
     (λ s e. let z : ◌≡◌ {A = ℕ} 0 1 = cc in omega arith)
 
-not-above : (q : Placed) → which (row_at q) ≡ (2 ∷ []) → ⊥
-not-above Nowhere e = let z : ◌≡◌ {A = ℕ} 0 1 = cc in omega arith
-not-above (At p) e = let z : ◌≡◌ {A = List ℕ} (p.index ∷ []) [] = cc in let y : ◌≡◌ {A = ℕ} 0 1 = cc in omega arith
+not-above : (q : Option Place) → which (row_at q) ≡ (2 ∷ []) → ⊥
+not-above None e = let z : ◌≡◌ {A = ℕ} 0 1 = cc in omega arith
+not-above (Some p) e = let z : ◌≡◌ {A = List ℕ} (p.index ∷ []) [] = cc in let y : ◌≡◌ {A = ℕ} 0 1 = cc in omega arith
 
-no_row : (q : Placed) → which (row_at q) ≡ [] → q ≡ Nowhere
-no_row Nowhere e = refl
-no_row (At p) e = let z : ◌≡◌ {A = ℕ} 0 1 = cc in absurd (omega arith)
+no_row : (q : Option Place) → which (row_at q) ≡ [] → q ≡ None
+no_row None e = refl
+no_row (Some p) e = let z : ◌≡◌ {A = ℕ} 0 1 = cc in absurd (omega arith)
 
-module _ (shift : ℤ) (above : ℕ) (heights : List ℕ) (rows y : ℕ) (s : Place) (tall : Tall heights) (e : still heights rows y ≡ At s) where
+module _ (shift : ℤ) (above : ℕ) (heights : List ℕ) (rows y : ℕ) (s : Place) (tall : Tall heights) (e : still heights rows y ≡ Some s) where
   abbrev frame : List ℕ
   frame = take rows heights
 
@@ -49,11 +48,11 @@ module _ (shift : ℤ) (above : ℕ) (heights : List ℕ) (rows y : ℕ) (s : Pl
   some : 1 ≤ s.left
   some = (place-within frame y s e).some
 
-  stands : (k : ℕ) → k < s.left → still heights rows (y + k) ≡ At (on k s)
+  stands : (k : ℕ) → k < s.left → still heights rows (y + k) ≡ Some (on k s)
   stands = place-on frame tall-frame y s e
 
   -- the line after the still row's last has another row
-  moves : (n : ℕ) → n ≡ s.left → (t : Place) → still heights rows (y + n) ≡ At t → t.index ≡ s.index → ⊥
+  moves : (n : ℕ) → n ≡ s.left → (t : Place) → still heights rows (y + n) ≡ Some t → t.index ≡ s.index → ⊥
   moves n all t there same =
       let after = rw (← all) at (place_after frame tall-frame y s e) in
       let index = row-index frame (suc s.index) t (sym after ∙ there) in
@@ -61,7 +60,7 @@ module _ (shift : ℤ) (above : ℕ) (heights : List ℕ) (rows y : ℕ) (s : Pl
 
   -- a stretch, by what ends it
   stretch : (n : ℕ) → 1 ≤ n → n ≤ s.left → ((k : ℕ) → k < n → glide (y + k) ≡ background_on k (glide y))
-      → (n < s.left → (t : Place) → still heights rows (y + n) ≡ At t → which (glide (y + n)) ≡ which (glide y) → ⊥) → Stretch shift above heights rows y s n
+      → (n < s.left → (t : Place) → still heights rows (y + n) ≡ Some t → which (glide (y + n)) ≡ which (glide y) → ⊥) → Stretch shift above heights rows y s n
   stretch n one few glides ends = record {
     some = one;
     stands = λ k below. stands k (omega arith);
@@ -69,12 +68,12 @@ module _ (shift : ℤ) (above : ℕ) (heights : List ℕ) (rows y : ℕ) (s : Pl
     ends = λ t there same row. by t there same row (ltb n s.left) refl;
   }
     where
-      by : (t : Place) → still heights rows (y + n) ≡ At t → t.index ≡ s.index → which (glide (y + n)) ≡ which (glide y) → (b : Bool) → ltb n s.left ≡ b → ⊥
+      by : (t : Place) → still heights rows (y + n) ≡ Some t → t.index ≡ s.index → which (glide (y + n)) ≡ which (glide y) → (b : Bool) → ltb n s.left ≡ b → ⊥
       by t there same row true below = ends (ltb-true n s.left below) t there row
       by t there same row false past = let least = ltb-false n s.left past in moves n (omega arith) t there same
 
   -- of a row in rows hs, where line y + k has line z + k of them
-  row-stretch : (hs : List ℕ) → Tall hs → (z : ℕ) → ((k : ℕ) → glide (y + k) ≡ row_at (place hs (z + k))) → (p : Place) → place hs z ≡ At p → glide y ≡ Row p
+  row-stretch : (hs : List ℕ) → Tall hs → (z : ℕ) → ((k : ℕ) → glide (y + k) ≡ row_at (place hs (z + k))) → (p : Place) → place hs z ≡ Some p → glide y ≡ Row p
       → Stretch shift above heights rows y s (min s.left p.left)
   row-stretch hs tall-hs z glides p there here =
       let one = (place-within hs z p there).some in
@@ -117,7 +116,7 @@ module _ (shift : ℤ) (above : ℕ) (heights : List ℕ) (rows y : ℕ) (s : Pl
           let past = ltb-false y d u in
           absurd (frame-there d above heights rows tall y (y - d) s (omega arith) e (none_of (place frame (y - d)) (sym (down-later d above heights rows y past) ∙ sym (on-down shift above heights rows t y) ∙ here)))
 
-  comes : is_down shift ≡ true → above + y < d → (u : Place) → still heights rows (d - above) ≡ At u → which (glide (d - above)) ≡ [] → (b : Bool) → ltb (d - above) d ≡ b → ⊥
+  comes : is_down shift ≡ true → above + y < d → (u : Place) → still heights rows (d - above) ≡ Some u → which (glide (d - above)) ≡ [] → (b : Bool) → ltb (d - above) d ≡ b → ⊥
   comes t low u there same true first =
       let below = ltb-true (d - above) d first in
       let z : ◌≡◌ {A = List ℕ} (2 ∷ []) [] = rw (on-down shift above heights rows t (d - above), down-first d above heights rows (d - above) below, above-there above d (d - above) below (omega arith)) at same in

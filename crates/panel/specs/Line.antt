@@ -1,11 +1,9 @@
 -- Which row, and which of its scan lines, a line of the screen shows while a frame is shifted. Document 02 says "should glide" and
 -- "windows stand still"; the rest is ours. Rows have heights, and stand one after the other.
-use Rattle.std.specs.Prelude.{ℕ, suc, ◌+◌, ◌-◌, min, Bool, List, [], ◌∷◌, ℤ, pos, nat_abs, take, ltb, leb}
+use Rattle.std.specs.Prelude.{ℕ, suc, ◌+◌, ◌-◌, min, Bool, List, [], ◌∷◌, ℤ, pos, nat_abs, take, ltb, leb, Option, Some, None}
 use Rattle.std.specs.Int.Signed.{lt_z}
 use Rattle.memory.specs.Word.{when◌then◌else◌}
 use Rattle.panel.specs.declared.Place.{Place}
-use Rattle.panel.specs.declared.Placed.{Placed}
-use Rattle.panel.specs.declared.Placed.TheVariants.{Nowhere, At}
 use Rattle.panel.specs.declared.Background.{Background}
 use Rattle.panel.specs.declared.Background.TheVariants.{Nothing, Row, Above}
 use Rattle.panel.specs.declared.Line.{Line}
@@ -15,18 +13,18 @@ abbrev pub place_at : (index line left : ℕ) → Place
 place_at index line left = record { index = index; line = line; left = left }
 
 -- the same place, one row further on
-abbrev pub later : Placed → Placed
-later Nowhere = Nowhere
-later (At p) = At (place_at (suc p.index) p.line p.left)
+abbrev pub later : Option Place → Option Place
+later None = None
+later (Some p) = Some (place_at (suc p.index) p.line p.left)
 
 -- which of rows of heights hs, one after the other, has line z; none past them
-unfoldable pub place : List ℕ → ℕ → Placed
-place [] z = Nowhere
-place (h ∷ hs) z = when ltb z h then At (place_at 0 z (h - z)) else later (place hs (z - h))
+unfoldable pub place : List ℕ → ℕ → Option Place
+place [] z = None
+place (h ∷ hs) z = when ltb z h then Some (place_at 0 z (h - z)) else later (place hs (z - h))
 
-abbrev pub row_at : Placed → Background
-row_at Nowhere = Nothing
-row_at (At p) = Row p
+abbrev pub row_at : Option Place → Background
+row_at None = Nothing
+row_at (Some p) = Row p
 
 -- Down by d lines, a line y of the first d: of the row above, which is h lines high (0 where there is none), its last d lines come down.
 unfoldable pub above_at : (h d y : ℕ) → Background
@@ -46,7 +44,7 @@ background shift above heights rows y =
     else row_at (place heights (y + d))
 
 -- What stands still, on line y: the frame's rows, where they are unshifted.
-abbrev pub still : (heights : List ℕ) → (rows y : ℕ) → Placed
+abbrev pub still : (heights : List ℕ) → (rows y : ℕ) → Option Place
 still heights rows y = place (take rows heights) y
 
 -- how many lines from y on have no row gliding, of `most`: up the rest, down those before the row above comes in
@@ -61,11 +59,11 @@ background_lines shift above y most (Above p) = min most p.left
 
 -- A line of the screen: what glides there, what stands still, and how many lines from it on have these two rows. Where no row stands
 -- still nothing glides either: a window might stand there.
-abbrev pub line_at : ℤ → (above : ℕ) → (heights : List ℕ) → (rows y : ℕ) → Placed → Line
-line_at shift above heights rows y Nowhere = record { background = Nothing; still = Nowhere; lines = 0 }
-line_at shift above heights rows y (At s) = record {
+abbrev pub line_at : ℤ → (above : ℕ) → (heights : List ℕ) → (rows y : ℕ) → Option Place → Line
+line_at shift above heights rows y None = record { background = Nothing; still = None; lines = 0 }
+line_at shift above heights rows y (Some s) = record {
   background = background shift above heights rows y;
-  still = At s;
+  still = Some s;
   lines = background_lines shift above y s.left (background shift above heights rows y);
 }
 

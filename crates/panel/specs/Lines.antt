@@ -1,9 +1,7 @@
 -- How the lines of a shifted frame follow each other, of rows that each have a scan line. Statements; their proofs are in proofs/.
-use Rattle.std.specs.Prelude.{ℕ, suc, ◌+◌, ◌-◌, ◌≤◌, ◌<◌, ◌≡◌, true, false, List, [], ◌∷◌, ℤ, pos, length, get_or, take, ltb}
+use Rattle.std.specs.Prelude.{ℕ, suc, ◌+◌, ◌-◌, ◌≤◌, ◌<◌, ◌≡◌, true, false, List, [], ◌∷◌, ℤ, pos, length, get_or, take, ltb, Option, Some, None}
 use Rattle.memory.specs.Word.{when◌then◌else◌}
 use Rattle.panel.specs.declared.Place.{Place}
-use Rattle.panel.specs.declared.Placed.{Placed}
-use Rattle.panel.specs.declared.Placed.TheVariants.{Nowhere, At}
 use Rattle.panel.specs.declared.Background.{Background}
 use Rattle.panel.specs.declared.Background.TheVariants.{Nothing, Row, Above}
 use Rattle.panel.specs.Line.{place_at, place, row_at, is_down, background, still, line}
@@ -13,13 +11,13 @@ abbrev pub Tall : List ℕ → Type 0
 Tall hs = (i : ℕ) → i < length hs → 1 ≤ get_or hs i 0
 
 -- line 0 of row i, where there is such a row
-abbrev pub row_from : List ℕ → ℕ → Placed
-row_from hs i = when ltb i (length hs) then At (place_at i 0 (get_or hs i 0)) else Nowhere
+abbrev pub row_from : List ℕ → ℕ → Option Place
+row_from hs i = when ltb i (length hs) then Some (place_at i 0 (get_or hs i 0)) else None
 
 -- the place after another: the next scan line of its row, or from its last one line 0 of the row that follows
-abbrev pub next : List ℕ → Placed → Placed
-next hs Nowhere = Nowhere
-next hs (At p) = when ltb 1 p.left then At (place_at p.index (suc p.line) (p.left - 1)) else row_from hs (suc p.index)
+abbrev pub next : List ℕ → Option Place → Option Place
+next hs None = None
+next hs (Some p) = when ltb 1 p.left then Some (place_at p.index (suc p.line) (p.left - 1)) else row_from hs (suc p.index)
 
 -- a place in rows: its row is there, and has the scan lines before it and those from it on, of which it is one
 pub record Within (hs : List ℕ) (p : Place) : Type 0 where
@@ -34,7 +32,7 @@ PlaceFollows = (hs : List ℕ) → Tall hs → (z : ℕ) → place hs (suc z) �
 -- what glides after another: the same of rows `hs`, and of the row above, which row 0 follows
 abbrev pub next_background : List ℕ → Background → Background
 next_background hs Nothing = Nothing
-next_background hs (Row p) = row_at (next hs (At p))
+next_background hs (Row p) = row_at (next hs (Some p))
 next_background hs (Above p) = when ltb 1 p.left then Above (place_at 0 (suc p.line) (p.left - 1)) else row_at (row_from hs 0)
 
 -- the rows that glide, besides the row above
@@ -50,11 +48,11 @@ pub record Follows (shift : ℤ) (above : ℕ) (heights : List ℕ) (rows : ℕ)
   pub whole : (y : ℕ) (p : Place) → background shift above heights rows y ≡ Above p → (p.line + p.left ≡ above) × (1 ≤ p.left)
   pub last : is_down shift ≡ false → (y : ℕ) → background shift above heights rows y ≡ Nothing → background shift above heights rows (suc y) ≡ Nothing
   pub first : is_down shift ≡ true → (y : ℕ) (s : Place) → (background shift above heights rows y ≡ Nothing → ⊥)
-      → still heights rows (suc y) ≡ At s → background shift above heights rows (suc y) ≡ Nothing → ⊥
+      → still heights rows (suc y) ≡ Some s → background shift above heights rows (suc y) ≡ Nothing → ⊥
 
 -- Without a shift, what glides is what stands still.
 abbrev pub Unshifted : Type 0
-Unshifted = (above : ℕ) (heights : List ℕ) (rows y : ℕ) (s : Place) → still heights rows y ≡ At s → background (pos 0) above heights rows y ≡ Row s
+Unshifted = (above : ℕ) (heights : List ℕ) (rows y : ℕ) (s : Place) → still heights rows y ≡ Some s → background (pos 0) above heights rows y ≡ Row s
 
 -- the same row, k scan lines on
 abbrev pub on : ℕ → Place → Place
@@ -74,11 +72,11 @@ which (Above p) = 2 ∷ []
 -- A stretch, the lines from y on that `line` counts where s stands still: they have its two rows, and the line after them has not both.
 pub record Stretch (shift : ℤ) (above : ℕ) (heights : List ℕ) (rows y : ℕ) (s : Place) (n : ℕ) : Type 0 where
   pub some : 1 ≤ n
-  pub stands : (k : ℕ) → k < n → still heights rows (y + k) ≡ At (on k s)
+  pub stands : (k : ℕ) → k < n → still heights rows (y + k) ≡ Some (on k s)
   pub glides : (k : ℕ) → k < n → background shift above heights rows (y + k) ≡ background_on k (background shift above heights rows y)
-  pub ends : (t : Place) → still heights rows (y + n) ≡ At t → t.index ≡ s.index
+  pub ends : (t : Place) → still heights rows (y + n) ≡ Some t → t.index ≡ s.index
       → which (background shift above heights rows (y + n)) ≡ which (background shift above heights rows y) → ⊥
 
 abbrev pub Stretches : Type 0
-Stretches = (shift : ℤ) (above : ℕ) (heights : List ℕ) (rows y : ℕ) (s : Place) → Tall heights → still heights rows y ≡ At s
+Stretches = (shift : ℤ) (above : ℕ) (heights : List ℕ) (rows y : ℕ) (s : Place) → Tall heights → still heights rows y ≡ Some s
     → Stretch shift above heights rows y s (line shift above heights rows y).lines

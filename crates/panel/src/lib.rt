@@ -1,6 +1,6 @@
 #![tactic(auto)]
 // What the lines of a panel show while a frame is shifted: which row and scan line glides on each, which stands still, and their cells.
-ghost use Rattle.std.specs.Prelude.{◌≡◌, ◌-◌, min, nat_abs, take};
+ghost use Rattle.std.specs.Prelude.{◌≡◌, nat_abs, take};
 ghost use Rattle.panel.specs.Line.{place, row_at, above_at, background, background_lines, line};
 ghost use Rattle.panel.specs.Answers.{shown_in};
 ghost use Rattle.panel.specs.Shown.{layer, in_columns, cell_in, background_cell, cursor_bit, with_cursor_of, sized, show_called, show_call};
@@ -11,13 +11,6 @@ pub struct Place {
     pub index: usize,
     pub line: u64,
     pub left: u64,
-}
-
-// Where a line is in rows, or that it is past them.
-#[derive(Clone, Copy)]
-pub enum Placed {
-    Nowhere,
-    At(Place),
 }
 
 // What glides on a line: a row of the frame or below it, the row above, or nothing.
@@ -32,7 +25,7 @@ pub enum Background {
 #[derive(Clone, Copy)]
 pub struct Line {
     pub background: Background,
-    pub still: Placed,
+    pub still: Option<Place>,
     pub lines: u64,
 }
 
@@ -47,24 +40,23 @@ pub struct Columns {
 const NOTHING: u32 = 8388608;
 
 // Which of the first `rows` rows has line z.
-pub fn place_of(heights: &[u32], rows: usize, z: u64) -> Placed
+pub fn place_of(heights: &[u32], rows: usize, z: u64) -> Option<Place>
     ensures { result ≡ place (take rows heights.now) z }
 {
+    let first = &heights[..rows.min(heights.len())];
     let mut rest = z;
-    let mut i = 0;
-    while (i < rows) & (i < heights.len()) {
-        let h = heights[i] as u64;
-        if rest < h {
-            return Placed::At(Place {
-                index: i,
+    for (index, height) in first.iter().enumerate() {
+        let height = *height as u64;
+        if rest < height {
+            return Some(Place {
+                index,
                 line: rest,
-                left: h - rest,
+                left: height - rest,
             });
         }
-        rest -= h;
-        i += 1;
+        rest -= height;
     }
-    Placed::Nowhere
+    None
 }
 
 // A line of the screen, of a frame with a shift: the height of the row above, 0 where there is none; the heights of the frame's rows and
@@ -72,20 +64,18 @@ pub fn place_of(heights: &[u32], rows: usize, z: u64) -> Placed
 pub fn line_of(shift: i32, above: u32, heights: &[u32], rows: usize, y: u32) -> Line
     ensures { result ≡ line shift above heights.now rows y }
 {
-    match place_of(heights, rows, y as u64) {
-        Placed::Nowhere => Line {
+    let Some(s) = place_of(heights, rows, y as u64) else {
+        return Line {
             background: Background::Nothing,
-            still: Placed::Nowhere,
+            still: None,
             lines: 0,
-        },
-        Placed::At(s) => {
-            let background = background_of(shift, above, heights, rows, y);
-            Line {
-                background,
-                still: Placed::At(s),
-                lines: background_lines(shift, above, y, s.left, background),
-            }
-        }
+        };
+    };
+    let background = background_of(shift, above, heights, rows, y);
+    Line {
+        background,
+        still: Some(s),
+        lines: background_lines(shift, above, y, s.left, background),
     }
 }
 
@@ -108,20 +98,13 @@ fn background_of(shift: i32, above: u32, heights: &[u32], rows: usize, y: u32) -
 pub fn lines_of(shift: i32) -> u64
     ensures { result ≡ nat_abs shift }
 {
-    if shift < 0 {
-        (-1 - shift) as u64 + 1
-    } else {
-        shift as u64
-    }
+    shift.unsigned_abs() as u64
 }
 
-fn row_at(placed: Placed) -> Background
+fn row_at(placed: Option<Place>) -> Background
     ensures { result ≡ row_at placed }
 {
-    match placed {
-        Placed::Nowhere => Background::Nothing,
-        Placed::At(p) => Background::Row(p),
-    }
+    placed.map_or(Background::Nothing, Background::Row)
 }
 
 // What comes down of the row above, on one of the first d lines.
@@ -133,7 +116,7 @@ fn above_at(above: u32, d: u64, y: u32) -> Background
         return Background::Above(Place {
             index: 0,
             line: end - d,
-            left: less(d, y as u64),
+            left: d.saturating_sub(y as u64),
         });
     }
     Background::Nothing
@@ -144,28 +127,13 @@ fn background_lines(shift: i32, above: u32, y: u32, most: u64, background: Backg
     ensures { result ≡ background_lines shift above y most background }
 {
     match background {
-        Background::Row(p) => least(most, p.left),
-        Background::Above(p) => least(most, p.left),
-        Background::Nothing => {
-            if shift < 0 {
-                return least(most, less(less(lines_of(shift), above as u64), y as u64));
-            }
-            most
+        Background::Row(p) | Background::Above(p) => most.min(p.left),
+        Background::Nothing if shift < 0 => {
+            let dark = lines_of(shift).saturating_sub(above as u64);
+            most.min(dark.saturating_sub(y as u64))
         }
+        Background::Nothing => most,
     }
-}
-
-fn least(a: u64, b: u64) -> u64
-    ensures { result ≡ min a b }
-{
-    if a < b { a } else { b }
-}
-
-// The difference, 0 where there is none.
-fn less(a: u64, b: u64) -> u64
-    ensures { result ≡ a - b }
-{
-    if b < a { a - b } else { 0 }
 }
 
 // The 132 cells of a line, from the row that stands still there, the row that glides there, each with the columns of the window on it,
@@ -186,10 +154,8 @@ pub fn show(
     if cells.len() != 132 {
         return false;
     }
-    let mut x = 0;
-    while x < cells.len() {
-        cells[x] = shown_in(still, still_columns, gliding, gliding_columns, behind, x);
-        x += 1;
+    for (x, cell) in cells.iter_mut().enumerate() {
+        *cell = shown_in(still, still_columns, gliding, gliding_columns, behind, x);
     }
     true
 }
@@ -198,7 +164,7 @@ pub fn show(
 fn is_sized(cells: &[u32]) -> bool
     ensures { result ≡ sized cells.now }
 {
-    (cells.len() == 132) | (cells.len() == 0)
+    matches!(cells.len(), 0 | 132)
 }
 
 // What a line shows in column x: nothing where no row stands still.
@@ -231,7 +197,7 @@ fn is_in(columns: Columns, x: usize) -> bool
 fn cell_in(cells: &[u32], x: usize) -> u32
     ensures { result ≡ cell_in cells.now x }
 {
-    if x < cells.len() { cells[x] } else { NOTHING }
+    cells.get(x).copied().unwrap_or(NOTHING)
 }
 
 // What glides in column x: of a row with a window there, the cell behind it.

@@ -1,4 +1,5 @@
 -- Outside the columns of a row's window no cell of the row is a window's, and none of those behind it is.
+use Rattle.std.proofs.Common.{Option, Some, None}
 use mathlib.Core.Path.{◌≡◌, refl, ap, sym, subst, ◌∙◌}
 use mathlib.Core.Bool.{Bool, true, false, ◌&&◌}
 use mathlib.Core.List.{List, [], ◌∷◌, ◌++◌}
@@ -22,8 +23,6 @@ use Rattle.blocks.specs.declared.FillMode.{FillMode}
 use Rattle.blocks.specs.declared.Segment.{Segment}
 use Rattle.blocks.specs.RowBlock.{window_row_at}
 use Rattle.blocks.proofs.BlockBounds.{Few}
-use Rattle.windows.specs.declared.WindowInHand.{WindowInHand}
-use Rattle.windows.specs.declared.WindowInHand.TheVariants.{Absent, Present}
 use Rattle.windows.specs.Window.{due_window}
 use Rattle.windows.proofs.WindowBounds.{After, ended}
 use Rattle.state.specs.declared.Fields.{Fields}
@@ -40,6 +39,7 @@ use Rattle.codes.specs.Attribute.{Fill, Background, source_number, window_number
 use Rattle.codes.specs.Codes.{blank}
 use Rattle.codes.proofs.CellParts.{source-back, window-back}
 use Rattle.codes.proofs.CodeCells.{Makes}
+use Rattle.windows.specs.declared.Window.{Window}
 use Rattle.cells.specs.Cells.{row_cells}
 use Rattle.cells.proofs.CellSources.{row-cells}
 use Rattle.cells.proofs.CellColumns.{both-give, implies, Around, window-around}
@@ -139,7 +139,7 @@ all-clear (also h hs) (suc x) = all-clear hs x
 -- ---- columns ----
 
 -- outside the columns of the window in hand
-abbrev Clear : ℕ → WindowInHand → List ℕ → Type 0
+abbrev Clear : ℕ → Option Window → List ℕ → Type 0
 Clear row w cs = (x : ℕ) → in_columns (columns_of row w) x ≡ false → NoWindow (cell_in cs x)
 
 either-off : (a b : Bool) → a && b ≡ false → (a ≡ false) ⊎ (b ≡ false)
@@ -181,7 +181,7 @@ module _ {first end : ℕ} {cs : List ℕ} (a : Around NoWindow first end cs) wh
 -- ---- the plan of a row ----
 
 -- the columns that a window takes on a row are those of the window in hand after it
-abbrev Covers : ℕ → WindowInHand → Overlay → Type 0
+abbrev Covers : ℕ → Option Window → Overlay → Type 0
 Covers row w none = Unit
 Covers row w (over number first end ws) = ((columns_of row w).first ≡ first) × ((columns_of row w).last + 1 ≡ end)
 
@@ -191,10 +191,10 @@ any (refuse x) = refuses
 any (ask q f) = asks λ w l. any (f w)
 
 module _ (σ : Settings) where
-  overlaid-covers : (row : ℕ) (w : WindowInHand) → Gives (λ o. Covers row o.window o.overlay) (overlaid σ row w)
+  overlaid-covers : (row : ℕ) (w : Option Window) → Gives (λ o. Covers row o.window o.overlay) (overlaid σ row w)
   unfolding overlaid window_row columns_of
-  overlaid-covers row Absent = dones tt
-  overlaid-covers row (Present w) =
+  overlaid-covers row None = dones tt
+  overlaid-covers row (Some w) =
       if-gives (leb w.block.top row && leb row w.block.bottom)
       (λ t.
       bind (any (window_row_at σ.linear w.rows)) λ b _.
@@ -215,7 +215,7 @@ module _ (σ : Settings) where
 
 -- ---- a row ----
 
-cells-clear : (σ : CodeSettings) (fill : FillMode) → fill.code < 256 → (row : ℕ) (w : WindowInHand) (o : Overlay) (gs : List Segment) (latch : ℕ) → Few 15 gs
+cells-clear : (σ : CodeSettings) (fill : FillMode) → fill.code < 256 → (row : ℕ) (w : Option Window) (o : Overlay) (gs : List Segment) (latch : ℕ) → Few 15 gs
     → Inside σ.hidden o → edges_fit σ.hidden o gs ≡ true → Covers row w o → Gives (λ d. Clear row w d.cells) (row_cells σ fill o gs (blank latch))
 cells-clear σ fill byte row w none gs latch few inside e covers =
     implies (λ d h x _. all-clear h x) (row-cells NoWindow σ fill byte fill-clear back-clear none tt gs (blank latch) Agree.none)
@@ -232,13 +232,13 @@ row-clear σ s l =
     (cells-clear (code_settings σ) s.fields.fill l s.fields.row p.next.window p.overlay p.segments s.latch h.0.few h.0.inside h.0.edges h.1)
     λ d k. dones k
 
-with-cursor : (σ : Settings) (f : Fields) (row : ℕ) (w : WindowInHand) (cs : List ℕ) → Clear row w cs → Clear row w (with_cursor σ f cs)
+with-cursor : (σ : Settings) (f : Fields) (row : ℕ) (w : Option Window) (cs : List ℕ) → Clear row w cs → Clear row w (with_cursor σ f cs)
 unfolding with_cursor
 with-cursor σ f row w cs h =
     if-cases (Clear row w) (σ.cursor && eqb f.cursor.y f.row) (λ _ x e. marked-in cs f.cursor.x x (h x e)) (λ _. h)
 
 -- no window comes where none is in hand
-off-hand : {w : WindowInHand} → After Absent w → (row x : ℕ) → in_columns (columns_of row w) x ≡ false
+off-hand : {w : Option Window} → After None w → (row x : ℕ) → in_columns (columns_of row w) x ≡ false
 unfolding columns_of
 off-hand ended row x = no-columns x
 

@@ -1,8 +1,9 @@
 -- The rows of both frames are read along one chain of row blocks, and at the whole row's shift they stand on the same lines.
+use Rattle.std.proofs.Common.{Option, Some, None, Ok}
 use mathlib.Core.Path.{◌≡◌, refl, sym, ap, subst, ◌∙◌}
 use mathlib.Core.Bool.{Bool, true, false}
 use mathlib.Core.List.{List, [], ◌∷◌, ◌++◌, append-nil}
-use mathlib.Core.Option.{Option, none, some}
+use mathlib.Core.Option.{Option as Maybe, none, some}
 use Prim.Native.Nat.{ℕ, ◌+◌, ◌-◌, ◌≤◌, ◌<◌}
 use native.Mathlib.Omega.{arith}
 use lib.IntN.{pos, negsuc, nat_abs}
@@ -24,15 +25,13 @@ use Rattle.plan.specs.Plan.{next_fields}
 use Rattle.start.specs.Top.{top_block}
 use Rattle.start.specs.Start.{first_format, first_fields}
 use Rattle.frame.specs.declared.Progress.{Progress}
-use Rattle.frame.specs.declared.BeginAnswer.TheVariants as Begin
 use Rattle.frame.specs.Step.{begin}
 use Rattle.frame.specs.Frame.{FrameRow, rest, frame}
 use Rattle.frame.proofs.Frames.{Ends, complete, refusing, rest-ends}
 use Rattle.beside.specs.Beside.{with_top}
-use Rattle.panel.specs.declared.Placed.{Placed}
-use Rattle.panel.specs.declared.Placed.TheVariants.{Nowhere, At}
 use Rattle.panel.specs.declared.Background.TheVariants.{Above}
 use Rattle.panel.specs.Line.{place_at, later, place, row_at, above_at, is_down}
+use Rattle.panel.specs.declared.Place.{Place}
 use Rattle.picture.specs.Picture.{PictureRow, Picture, picture_row, picture_rows, rows_from, frame_rows, onward, below_of, below_rows, above_row, picture, height_above, heights_of, line_on, first}
 use Rattle.picture.specs.EveryLine.{refusal_below}
 use Rattle.picture.specs.Ending.{Linked, linked, SameNext, one_further, EndsUp, EndsDown}
@@ -57,7 +56,7 @@ pub data ListChain (linear : Bool) (top : PointerWords) (m hs : List ℕ) : Type
       → BlockChain linear m main.rows (first_format main.lines) hs q u → ListChain linear top m hs
 
 module _ (σ : Settings) (m : List ℕ) where
-  follows-chain : {s t : State} {rs : List FrameRow} {o : Option State} → Successive σ m s rs o → o ≡ some t
+  follows-chain : {s t : State} {rs : List FrameRow} {o : Maybe State} → Successive σ m s rs o → o ≡ some t
       → BlockChain σ.linear m s.fields.next s.fields.format (heights_of (picture_rows σ m s rs)) t.fields.next t.fields.format
   unfolding picture_rows picture_row next_fields
   follows-chain {t} (stops {s}) e = let same : s ≡ t = cc in rw (← same) here
@@ -77,7 +76,7 @@ module _ (σ : Settings) (m : List ℕ) where
     unfolding frame frame_rows first_fields
     frame-framed latch ok = by (opening latch σ m)
       where
-        by_end : (n : ℕ) (s : State) → begin latch σ m ≡ Begin.Begun (record { state = s; words = n }) → Started latch σ m s
+        by_end : (n : ℕ) (s : State) → begin latch σ m ≡ Ok (record { state = s; words = n }) → Started latch σ m s
             → (rest σ m (record { state = s; words = n })).refusal ≡ none → Ends (rest σ m (record { state = s; words = n })) → Framed latch
         by_end n s e st ok (refusing a) = refuses-none (sym a ∙ ok)
         by_end n s e st ok (complete {s = t} a b c) =
@@ -132,9 +131,9 @@ next_place (x ∷ hs) ks n y e a h k =
     let next = a hs (ap (λ (i : ℕ). i ∷ hs) same) in
     rw (← same) (place-next x hs y ∙ ap later (along-place next y (omega arith) k))
 
-further : (q : Placed) → row_at (later q) ≡ one_further (row_at q)
-further Nowhere = refl
-further (At p) = refl
+further : (q : Option Place) → row_at (later q) ≡ one_further (row_at q)
+further None = refl
+further (Some p) = refl
 
 first-height : (rs : List PictureRow) (hs : List ℕ) → 1 ≤ sum (heights_of rs) → get_elem? (heights_of rs ++ hs) 0 ≡ some (height_above rs)
 first-height [] hs h = absurd (omega arith)
@@ -146,7 +145,7 @@ unshifted e y on unmoved =
     let at : y + nat_abs e.shift ≡ y = omega (arith, ap nat_abs unmoved) in
     line-up e y on (ap is_down unmoved) ∙ rw at (ap row_at (place-front (heights_of e.rows) (heights_of e.below) y on))
 
-head-place : (hs : List ℕ) (n y : ℕ) → get_elem? hs 0 ≡ some n → y < n → place hs y ≡ At (place_at 0 y (n - y))
+head-place : (hs : List ℕ) (n y : ℕ) → get_elem? hs 0 ≡ some n → y < n → place hs y ≡ Some (place_at 0 y (n - y))
 head-place [] n y e h = refuses-none (sym e)
 head-place (x ∷ hs) n y e h = let same : x ≡ n = cc in rw (← same) (place-first x hs y (rw same h))
 

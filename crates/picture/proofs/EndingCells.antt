@@ -1,4 +1,5 @@
 -- After row 0 of one list the state is the other's first one, but for its row number, lines left and format: so the rows are drawn alike.
+use Rattle.std.proofs.Common.{None}
 use mathlib.Core.Path.{◌≡◌, refl, sym, ap, subst, ◌∙◌}
 use mathlib.Core.Bool.{Bool, true}
 use mathlib.Core.List.{List, [], ◌∷◌, ◌++◌, append-nil}
@@ -15,7 +16,6 @@ use Rattle.memory.proofs.ReadBounds.{Words, if-cases}
 use Rattle.settings.specs.declared.Settings.{Settings}
 use Rattle.settings.specs.Timing.{lines_for_rows}
 use Rattle.blocks.specs.declared.MainBlock.{MainBlock}
-use Rattle.windows.specs.declared.WindowInHand.TheVariants.{Absent}
 use Rattle.windows.specs.Window.{window_at, first_window}
 use Rattle.background.specs.Background.{BackgroundRow, background_block}
 use Rattle.state.specs.declared.Fields.{Fields}
@@ -38,11 +38,11 @@ use Rattle.picture.proofs.Heights.{refuses-none}
 use Rattle.picture.proofs.PlainRows.{Plain, row_plain, GoesOn, Trace, trace-then, trace, Similar, same-cells}
 
 -- a start without windows has none in hand
-start_plain : {latch : ℕ} {σ : Settings} {m : List ℕ} {s : State} → Started latch σ m s → null (registered σ.linear σ.tow) ≡ true → s.fields.window ≡ Absent
+start_plain : {latch : ℕ} {σ : Settings} {m : List ℕ} {s : State} → Started latch σ m s → null (registered σ.linear σ.tow) ≡ true → s.fields.window ≡ None
 unfolding first_fields first_window window_at run_from
 start_plain st tow =
-    let h : given st.window-from Absent ≡ given st.window-words st.window = rw tow at st.window-read in
-    let absent : st.window ≡ Absent = cc in
+    let h : given st.window-from None ≡ given st.window-words st.window = rw tow at st.window-read in
+    let absent : st.window ≡ None = cc in
     ap (λ (f : Fields). f.window) st.leads ∙ absent
 
 given-same : {A : Type 0} {o : Outcome A} {i j : ℕ} {x y : A} → o ≡ given i x → o ≡ given j y → x ≡ y

@@ -1,4 +1,5 @@
 -- A frame has no more rows than lines, of which row 0 takes its height or all: its rows and a shift below that height are within 4095.
+use Rattle.std.proofs.Common.{Result, Ok, Err}
 use mathlib.Core.Path.{◌≡◌, refl, ap, sym, subst}
 use mathlib.Core.Bool.{Bool, true}
 use mathlib.Core.List.{List}
@@ -13,6 +14,7 @@ use Rattle.memory.specs.Address.{null, words}
 use Rattle.memory.specs.Reading.{nobody, check, check_of, Outcome, given, refused, run}
 use Rattle.memory.proofs.ReadBounds.{Words, both, if-cases}
 use Rattle.memory.proofs.Gives.{Gives, dones, bind, check-gives, if-gives, run-gives}
+use Rattle.memory.specs.declared.Refusal.{Refusal}
 use Rattle.settings.specs.declared.Settings.{Settings}
 use Rattle.settings.specs.Good.{check_settings}
 use Rattle.blocks.specs.declared.RowFormat.{RowFormat}
@@ -30,8 +32,6 @@ use Rattle.cells.specs.Cells.{row_cells}
 use Rattle.row.specs.Row.{Row, code_settings, row, answered, row_call}
 use Rattle.row.proofs.RowBound.{row-drawn}
 use Rattle.frame.specs.declared.Progress.{Progress}
-use Rattle.frame.specs.declared.BeginAnswer.{BeginAnswer}
-use Rattle.frame.specs.declared.BeginAnswer.TheVariants as Begin
 use Rattle.frame.specs.Step.{begin, row_step, Stepped, step}
 use Rattle.frame.specs.Frame.{Frame, by_answer, by_step, blank, rest, from_begin, frame}
 use Rattle.frame.proofs.Frames.{next-step, rest-rows}
@@ -104,9 +104,9 @@ module _ (σ : Settings) (m : List ℕ) (w : Words m) (r : PictureRow) (n : ℕ)
       if-cases (λ (s : Stepped). Fits p.state (by_step (rest σ m) p s)) (eqb p.state.fields.left 0)
       (λ _ h. let z : ◌≡◌ {A = ℕ} 0 1 = cc in absurd (omega arith)) (λ _. by-outcome p (run m (row σ p.state)) refl)
 
-  from_start : (x : BeginAnswer) → first (begun_rows σ m x) ≡ some r → length (from_begin σ m x).rows + n ≤ 4095
-  from_start (Begin.Begun p) h = subst (Fits p.state) (sym (next-step σ m w p blank (length-replicate {A = ℕ} 132 0))) (by-step p) h
-  from_start (Begin.Refused x) h = let z : ◌≡◌ {A = ℕ} 0 1 = cc in absurd (omega arith)
+  from_start : (x : Result Progress Refusal) → first (begun_rows σ m x) ≡ some r → length (from_begin σ m x).rows + n ≤ 4095
+  from_start (Ok p) h = subst (Fits p.state) (sym (next-step σ m w p blank (length-replicate {A = ℕ} 132 0))) (by-step p) h
+  from_start (Err x) h = let z : ◌≡◌ {A = ℕ} 0 1 = cc in absurd (omega arith)
 
 pub shift_fits : ShiftFits
 unfolding frame_rows frame

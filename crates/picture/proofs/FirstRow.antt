@@ -1,4 +1,5 @@
 -- The row that leaves or enters is row 0 of the frame or the row above: both are read from the main block's first row block and lines.
+use Rattle.std.proofs.Common.{Some, Ok}
 use mathlib.Core.Path.{◌≡◌, refl, sym, ap, ◌∙◌}
 use mathlib.Core.Bool.{Bool, true, false}
 use mathlib.Core.List.{List, [], ◌∷◌, ◌++◌}
@@ -23,11 +24,9 @@ use Rattle.beside.specs.Beside.{with_top}
 use Rattle.scroll.specs.declared.Offset.{Offset}
 use Rattle.scroll.specs.declared.Scroll.{Scroll}
 use Rattle.scroll.specs.declared.FrameShift.{FrameShift}
-use Rattle.scroll.specs.declared.ShiftAnswer.TheVariants.{Accepted}
 use Rattle.scroll.specs.Scroll.{signed, shifted, first_lines, edge_lines, shift_call}
 use Rattle.scroll.proofs.ShiftBound.{lines-back}
 use Rattle.insertion.proofs.Chains.{drawn_row}
-use Rattle.panel.specs.declared.Placed.TheVariants.{At}
 use Rattle.panel.specs.declared.Background.TheVariants.{Row}
 use Rattle.panel.specs.Line.{place_at, place, row_at, is_down}
 use Rattle.picture.specs.Picture.{PictureRow, Picture, picture_row, picture_rows, frame_rows, above_row, picture, heights_of, line_on, first}
@@ -104,7 +103,7 @@ module _ (σ : Settings) (m : List ℕ) (soft : PointerWords) where
   by-reaching hard read edge (ended k) = stands (lines-back (upward hard) 0)
   by-reaching hard read edge {g} (moving k) = edge-first hard read edge g k (upward hard) refl
 
-  pub call_below : (last : Scroll) {s : FrameShift} → shift_call σ m soft last ≡ Accepted s → Below σ.linear σ.top soft m s
+  pub call_below : (last : Scroll) {s : FrameShift} → shift_call σ m soft last ≡ Ok s → Below σ.linear σ.top soft m s
   call_below last {s} e = by (call-gives σ m soft last e)
     where
       by : Gives σ m soft last s → Below σ.linear σ.top soft m s
@@ -118,7 +117,7 @@ same_first {linear} {m} {a} {b} (top_row {main} top lines) (top_row {main = main
     cc
 
 -- the line at the top of a picture that is shifted up by less than its row 0
-pub place-first : (x : ℕ) (hs : List ℕ) (z : ℕ) → z < x → place (x ∷ hs) z ≡ At (place_at 0 z (x - z))
+pub place-first : (x : ℕ) (hs : List ℕ) (z : ℕ) → z < x → place (x ∷ hs) z ≡ Some (place_at 0 z (x - z))
 unfolding place
 place-first x hs z h = rw (lt-ltb z x h)
 

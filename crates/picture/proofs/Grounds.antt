@@ -1,5 +1,6 @@
 -- What the height of an accepted row comes from: its row block and the redefinition, read from the next row block and the format of its
 -- state alone. Neither the window nor the latch has a part in it.
+use Rattle.std.proofs.Common.{Option, Ok, Err}
 use mathlib.Core.Path.{◌≡◌, refl, sym, ap, ◌∙◌}
 use mathlib.Core.Bool.{true}
 use mathlib.Core.List.{List}
@@ -13,7 +14,6 @@ use Rattle.memory.proofs.Laws.{after, run-after}
 use Rattle.memory.proofs.ReadBounds.{Words, both, reads-given}
 use Rattle.settings.specs.declared.Settings.{Settings}
 use Rattle.blocks.specs.declared.MainBlock.{MainBlock}
-use Rattle.windows.specs.declared.WindowInHand.{WindowInHand}
 use Rattle.windows.specs.Window.{due_window, first_window}
 use Rattle.state.specs.declared.Fields.{Fields}
 use Rattle.state.specs.declared.State.{State}
@@ -22,12 +22,12 @@ use Rattle.layout.specs.Layout.{total, all_fit, edges_fit}
 use Rattle.layout.specs.Overlay.{Overlaid, overlaid}
 use Rattle.background.specs.Background.{BackgroundRow, background_block, background_row}
 use Rattle.codes.specs.Codes.{Drawing, blank}
+use Rattle.windows.specs.declared.Window.{Window}
 use Rattle.cells.specs.Cells.{row_cells}
 use Rattle.plan.specs.Plan.{Plan, lines_taken, next_fields, planned, from_blocks, from_state, plan}
 use Rattle.start.specs.Top.{registered, top_block}
 use Rattle.start.specs.Start.{first_fields, window_start, main_start, start_from}
 use Rattle.row.specs.Row.{code_settings, Row, drawn_by, from_plan, row}
-use Rattle.frame.specs.declared.BeginAnswer.TheVariants as Begin
 use Rattle.frame.specs.Step.{begin}
 use Rattle.scroll.proofs.ShiftBound.{Lines, block_reads}
 use Rattle.insertion.proofs.Accepted.{never, Came, came, came-by, passed, settings-passed}
@@ -64,7 +64,7 @@ module _ (σ : Settings) (m : List ℕ) where
   pub record Grounded (f : Fields) (lines : ℕ) (next : Fields) : Type 0 where
     pub words : ℕ
     pub ground : BackgroundRow
-    pub window : WindowInHand
+    pub window : Option Window
     pub read : run m (background_block σ.linear f.next f.format) ≡ given words ground
     pub tall : Lines f.format.lines
     pub taken : lines ≡ lines_taken ground.format f.left
@@ -86,7 +86,7 @@ module _ (σ : Settings) (m : List ℕ) where
     pub ground : BackgroundRow
     pub read : run m (background_block σ.linear f.next f.format) ≡ given words ground
     pub due-words : ℕ
-    pub due : WindowInHand
+    pub due : Option Window
     pub due-read : run m (due_window σ.linear f.row f.window) ≡ given due-words due
     pub over-from : ℕ
     pub over-words : ℕ
@@ -185,7 +185,7 @@ module _ {σ : Settings} {m : List ℕ} (w : Words m) {f : Fields} {lines : ℕ}
 pub record Started (latch : ℕ) (σ : Settings) (m : List ℕ) (s : State) : Type 0 where
   pub words : ℕ
   pub main : MainBlock
-  pub window : WindowInHand
+  pub window : Option Window
   pub read : run m (top_block σ.linear σ.top) ≡ given words main
   pub window-from : ℕ
   pub window-words : ℕ
@@ -194,8 +194,8 @@ pub record Started (latch : ℕ) (σ : Settings) (m : List ℕ) (s : State) : Ty
   pub latched : s.latch ≡ latch
 
 pub data Opening (latch : ℕ) (σ : Settings) (m : List ℕ) : Type 0 where
-  opened : {n : ℕ} {s : State} → begin latch σ m ≡ Begin.Begun (record { state = s; words = n }) → Started latch σ m s → Opening latch σ m
-  closed : {r : Refusal} → begin latch σ m ≡ Begin.Refused r → Opening latch σ m
+  opened : {n : ℕ} {s : State} → begin latch σ m ≡ Ok (record { state = s; words = n }) → Started latch σ m s → Opening latch σ m
+  closed : {r : Refusal} → begin latch σ m ≡ Err r → Opening latch σ m
 
 module _ (latch : ℕ) (σ : Settings) (m : List ℕ) where
   start-read : {n : ℕ} {s : State} → run m (start_from latch σ) ≡ given n s → Started latch σ m s

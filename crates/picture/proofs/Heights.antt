@@ -1,4 +1,5 @@
 -- Every row of a picture is an accepted row, so that its height is 1 to 32; and a frame is accepted where no line is left.
+use Rattle.std.proofs.Common.{Result, Ok, Err}
 use mathlib.Core.Path.{◌≡◌, sym, ap, ◌∙◌}
 use mathlib.Core.List.{List}
 use mathlib.Core.Option.{Option, none, some}
@@ -14,8 +15,6 @@ use Rattle.start.specs.Start.{first_fields}
 use Rattle.state.specs.declared.Fields.{Fields}
 use Rattle.state.specs.declared.State.{State}
 use Rattle.frame.specs.declared.Progress.{Progress}
-use Rattle.frame.specs.declared.BeginAnswer.{BeginAnswer}
-use Rattle.frame.specs.declared.BeginAnswer.TheVariants as Begin
 use Rattle.frame.specs.Step.{begin}
 use Rattle.frame.specs.Frame.{Frame, rest, from_begin, frame}
 use Rattle.frame.proofs.Frames.{Ends, complete, refusing, rest-ends}
@@ -31,9 +30,9 @@ pub refuses-none : {A B : Type 0} {a : A} → ◌≡◌ {A = Option A} (some a) 
 refuses-none e = let z : ◌≡◌ {A = ℕ} 0 1 = cc in absurd (omega arith)
 
 module _ (σ : Settings) (m : List ℕ) (w : Words m) where
-  begun-tall : (x : BeginAnswer) → Tall (begun_rows σ m x)
-  begun-tall (Begin.Begun p) = follows-tall σ m w (rest-following σ m p)
-  begun-tall (Begin.Refused r) = tt
+  begun-tall : (x : Result Progress Refusal) → Tall (begun_rows σ m x)
+  begun-tall (Ok p) = follows-tall σ m w (rest-following σ m p)
+  begun-tall (Err r) = tt
 
   pub frame-tall : (latch : ℕ) → Tall (frame_rows latch σ m)
   unfolding frame_rows
@@ -48,17 +47,17 @@ module _ (σ : Settings) (m : List ℕ) (w : Words m) where
   unfolding below_rows
   below-tall n f = below_by n f.refusal f.state
 
-  first-tall : (x : BeginAnswer) → Tall (first_row σ m x)
-  first-tall (Begin.Begun p) = follows-tall σ m w (following σ m 1 p)
-  first-tall (Begin.Refused r) = tt
+  first-tall : (x : Result Progress Refusal) → Tall (first_row σ m x)
+  first-tall (Ok p) = follows-tall σ m w (following σ m 1 p)
+  first-tall (Err r) = tt
 
   pub above-tall : (latch : ℕ) → Tall (above_row latch σ m)
   unfolding above_row
   above-tall latch = first-tall (begin latch σ m)
 
-  begun-cut : (x : BeginAnswer) → Cut (from_begin σ m x).rows
-  begun-cut (Begin.Begun p) = follows-cut σ m w (rest-following σ m p)
-  begun-cut (Begin.Refused r) = tt
+  begun-cut : (x : Result Progress Refusal) → Cut (from_begin σ m x).rows
+  begun-cut (Ok p) = follows-cut σ m w (rest-following σ m p)
+  begun-cut (Err r) = tt
 
   -- an accepted frame in progress fills the lines left
   pub rest-fills : (p : Progress) → (rest σ m p).refusal ≡ none

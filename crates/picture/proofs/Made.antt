@@ -1,4 +1,5 @@
 -- Every row of a picture is an accepted row call, on a state whose fill code is a byte; so it has 132 cells.
+use Rattle.std.proofs.Common.{Result, Ok, Err}
 use mathlib.Core.Path.{◌≡◌, refl, ap, subst, ◌∙◌}
 use mathlib.Core.Bool.{Bool, true, false}
 use mathlib.Core.List.{List, [], ◌∷◌, ◌++◌}
@@ -20,8 +21,6 @@ use Rattle.start.proofs.StartBound.{start-reads}
 use Rattle.row.specs.Row.{Row, row, with_cursor, answered, row_call}
 use Rattle.row.proofs.RowBound.{row-drawn, cursor-length}
 use Rattle.frame.specs.declared.Progress.{Progress}
-use Rattle.frame.specs.declared.BeginAnswer.{BeginAnswer}
-use Rattle.frame.specs.declared.BeginAnswer.TheVariants as Begin
 use Rattle.frame.specs.Step.{begun, begin, row_step, Stepped, step}
 use Rattle.frame.specs.Frame.{FrameRow, frame_row, Frame, by_answer, by_step, blank, within, rest, from_begin, frame}
 use Rattle.picture.specs.Picture.{PictureRow, picture_row, picture_rows, begun_rows, frame_rows, onward, below_of, below_rows, first_row, above_row, first}
@@ -104,11 +103,11 @@ module _ (σ : Settings) (m : List ℕ) (w : Words m) where
   rest-follows p l = within-follows _ p l
 
   -- a start's state has a byte for its fill code
-  pub begun-fill : (latch : ℕ) (p : Progress) → begin latch σ m ≡ Begin.Begun p → p.state.fields.fill.code < 256
+  pub begun-fill : (latch : ℕ) (p : Progress) → begin latch σ m ≡ Ok p → p.state.fields.fill.code < 256
   unfolding begin
   begun-fill latch p e = by-start (run m (start_from latch σ)) refl e
     where
-      by-start : (o : Outcome State) → run m (start_from latch σ) ≡ o → begun (started o) ≡ Begin.Begun p → p.state.fields.fill.code < 256
+      by-start : (o : Outcome State) → run m (start_from latch σ) ≡ o → begun (started o) ≡ Ok p → p.state.fields.fill.code < 256
       by-start (given n s) h k =
           let q : s ≡ p.state = ap (λ (p : Progress). p.state) (let i : record { state = s; words = n } ≡ p = cc in i) in
           subst (λ (s : State). s.fields.fill.code < 256) q (reads-given 0 m w (start-reads latch σ) h).1.fill
@@ -119,25 +118,25 @@ module _ (σ : Settings) (m : List ℕ) (w : Words m) where
     unfolding frame_rows
     frame_made = by (begin latch σ m) refl
       where
-        by : (x : BeginAnswer) → begin latch σ m ≡ x → Each (Made σ m) (begun_rows σ m x)
-        by (Begin.Begun p) e = (rest-follows p (begun-fill latch p e)).rows
-        by (Begin.Refused r) e = none_left
+        by : (x : Result Progress Refusal) → begin latch σ m ≡ x → Each (Made σ m) (begun_rows σ m x)
+        by (Ok p) e = (rest-follows p (begun-fill latch p e)).rows
+        by (Err r) e = none_left
 
     pub above-made : Each (Made σ m) (above_row latch σ m)
     unfolding above_row
     above-made = by (begin latch σ m) refl
       where
-        by : (x : BeginAnswer) → begin latch σ m ≡ x → Each (Made σ m) (first_row σ m x)
-        by (Begin.Begun p) e = (within-follows 1 p (begun-fill latch p e)).rows
-        by (Begin.Refused r) e = none_left
+        by : (x : Result Progress Refusal) → begin latch σ m ≡ x → Each (Made σ m) (first_row σ m x)
+        by (Ok p) e = (within-follows 1 p (begun-fill latch p e)).rows
+        by (Err r) e = none_left
 
     end-fill : (s : State) → (frame latch σ m).state ≡ some s → s.fields.fill.code < 256
     unfolding frame
     end-fill s = by (begin latch σ m) refl
       where
-        by : (x : BeginAnswer) → begin latch σ m ≡ x → (from_begin σ m x).state ≡ some s → s.fields.fill.code < 256
-        by (Begin.Begun p) e h = (rest-follows p (begun-fill latch p e)).end s h
-        by (Begin.Refused r) e h = let z : ◌≡◌ {A = ℕ} 0 1 = cc in absurd (omega arith)
+        by : (x : Result Progress Refusal) → begin latch σ m ≡ x → (from_begin σ m x).state ≡ some s → s.fields.fill.code < 256
+        by (Ok p) e h = (rest-follows p (begun-fill latch p e)).end s h
+        by (Err r) e h = let z : ◌≡◌ {A = ℕ} 0 1 = cc in absurd (omega arith)
 
     pub below-made : (n : ℕ) → Each (Made σ m) (below_rows σ m n (frame latch σ m))
     unfolding below_rows

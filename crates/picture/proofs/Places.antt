@@ -1,4 +1,5 @@
 -- A line has a place in rows exactly where it is above their heights together; and the rows after it do not matter.
+use Rattle.std.proofs.Common.{Option, Some, None}
 use mathlib.Core.Path.{◌≡◌, refl, ap, ◌∙◌}
 use mathlib.Core.Bool.{Bool, true, false}
 use mathlib.Core.List.{List, [], ◌∷◌, ◌++◌}
@@ -10,10 +11,9 @@ use lib.Dec.{ltb}
 use borrow.Author.Tests.{ltb-false, lt-ltb, le-ltb}
 use Rattle.memory.proofs.ReadBounds.{if-cases}
 use Rattle.memory.specs.Word.{when◌then◌else◌}
-use Rattle.panel.specs.declared.Placed.{Placed}
-use Rattle.panel.specs.declared.Placed.TheVariants.{Nowhere, At}
 use Rattle.panel.specs.declared.Background.TheVariants.{Nothing}
 use Rattle.panel.specs.Line.{place_at, later, place, row_at, above_at, is_down, background, still, line_at, line}
+use Rattle.panel.specs.declared.Place.{Place}
 use Rattle.picture.specs.Picture.{PictureRow, Picture, height_above, heights_of, line_on}
 use Rattle.picture.specs.EveryLine.{last_of}
 use Rattle.picture.specs.Heights.{Fills, empty, last, whole}
@@ -28,25 +28,25 @@ sum-append [] ks = omega arith
 sum-append (h ∷ hs) ks = omega (arith, sum-append hs ks)
 
 -- no place is one
-pub nowhere-at : {B : Type 0} {p : Placed} → p ≡ Nowhere → (p ≡ Nowhere → ⊥) → B
+pub nowhere-at : {B : Type 0} {p : Option Place} → p ≡ None → (p ≡ None → ⊥) → B
 nowhere-at e h = absurd (h e)
 
-later-nowhere : (p : Placed) → later p ≡ Nowhere → p ≡ Nowhere
-later-nowhere Nowhere e = refl
-later-nowhere (At p) e = let z : ◌≡◌ {A = ℕ} 0 1 = cc in absurd (omega arith)
+later-nowhere : (p : Option Place) → later p ≡ None → p ≡ None
+later-nowhere None e = refl
+later-nowhere (Some p) e = let z : ◌≡◌ {A = ℕ} 0 1 = cc in absurd (omega arith)
 
-pub row-nowhere : (p : Placed) → row_at p ≡ Nothing → p ≡ Nowhere
-row-nowhere Nowhere e = refl
-row-nowhere (At p) e = let z : ◌≡◌ {A = ℕ} 0 1 = cc in absurd (omega arith)
+pub row-nowhere : (p : Option Place) → row_at p ≡ Nothing → p ≡ None
+row-nowhere None e = refl
+row-nowhere (Some p) e = let z : ◌≡◌ {A = ℕ} 0 1 = cc in absurd (omega arith)
 
-pub place-within : (hs : List ℕ) (z : ℕ) → z < sum hs → place hs z ≡ Nowhere → ⊥
+pub place-within : (hs : List ℕ) (z : ℕ) → z < sum hs → place hs z ≡ None → ⊥
 unfolding place
 place-within [] z h = absurd (omega arith)
 place-within (x ∷ hs) z h =
-    if-cases (λ (p : Placed). p ≡ Nowhere → ⊥) (ltb z x) (λ t e. let n : ◌≡◌ {A = ℕ} 0 1 = cc in omega arith)
+    if-cases (λ (p : Option Place). p ≡ None → ⊥) (ltb z x) (λ t e. let n : ◌≡◌ {A = ℕ} 0 1 = cc in omega arith)
     (λ t e. place-within hs (z - x) (omega (arith, ltb-false z x t)) (later-nowhere _ e))
 
-pub place-past : (hs : List ℕ) (z : ℕ) → sum hs ≤ z → place hs z ≡ Nowhere
+pub place-past : (hs : List ℕ) (z : ℕ) → sum hs ≤ z → place hs z ≡ None
 unfolding place
 place-past [] z h = refl
 place-past (x ∷ hs) z h = rw (le-ltb z x (omega arith), place-past hs (z - x) (omega arith))
@@ -64,7 +64,7 @@ along-place right z h k = absurd (omega arith)
 along-place (both {h = x} {hs} {ks} a) z h k = by (λ past. along-place a (z - x) (omega arith) (omega arith)) (ltb z x) refl
   where
     by : (x ≤ z → place hs (z - x) ≡ place ks (z - x)) → (t : Bool) → ltb z x ≡ t
-        → (when t then At (place_at 0 z (x - z)) else later (place hs (z - x))) ≡ (when t then At (place_at 0 z (x - z)) else later (place ks (z - x)))
+        → (when t then Some (place_at 0 z (x - z)) else later (place hs (z - x))) ≡ (when t then Some (place_at 0 z (x - z)) else later (place ks (z - x)))
     by go_on true e = refl
     by go_on false e = ap later (go_on (ltb-false z x e))
 
@@ -100,14 +100,14 @@ heights-append : (rs bs : List PictureRow) → heights_of (rs ++ bs) ≡ heights
 heights-append [] bs = refl
 heights-append (r ∷ rs) bs = ap (λ (hs : List ℕ). r.height ∷ hs) (heights-append rs bs)
 
-still-line : (shift : ℤ) (above : ℕ) (heights : List ℕ) (rows y : ℕ) → (still heights rows y ≡ Nowhere → ⊥)
+still-line : (shift : ℤ) (above : ℕ) (heights : List ℕ) (rows y : ℕ) → (still heights rows y ≡ None → ⊥)
     → (line shift above heights rows y).background ≡ background shift above heights rows y
 unfolding line
 still-line shift above heights rows y h = by (still heights rows y) h
   where
-    by : (s : Placed) → (s ≡ Nowhere → ⊥) → (line_at shift above heights rows y s).background ≡ background shift above heights rows y
-    by Nowhere h = absurd (h refl)
-    by (At s) h = refl
+    by : (s : Option Place) → (s ≡ None → ⊥) → (line_at shift above heights rows y s).background ≡ background shift above heights rows y
+    by None h = absurd (h refl)
+    by (Some s) h = refl
 
 -- on a line where a row stands still
 module _ (p : Picture) (y : ℕ) (on : y < sum (heights_of p.rows)) where

@@ -1,9 +1,10 @@
 -- A row without a window is drawn from its row block, the fill and the latch: two such rows of one address have one drawing, and where they
 -- lead is one address too.
+use Rattle.std.proofs.Common.{Option, None}
 use mathlib.Core.Path.{◌≡◌, refl, sym, ap, ◌∙◌}
 use mathlib.Core.Bool.{Bool}
 use mathlib.Core.List.{List, [], ◌∷◌, ◌++◌}
-use mathlib.Core.Option.{Option, none as nothing, some}
+use mathlib.Core.Option.{Option as Maybe, none as nothing, some}
 use Prim.Native.Nat.{ℕ, zero, suc}
 use lib.ListN.{get_elem?}
 use Rattle.memory.specs.declared.Pointer.{Pointer}
@@ -12,8 +13,6 @@ use Rattle.settings.specs.declared.Settings.{Settings}
 use Rattle.blocks.specs.declared.FillMode.{FillMode}
 use Rattle.blocks.specs.RowBlock.{RowBlock}
 use Rattle.background.specs.Background.{BackgroundRow, background_block}
-use Rattle.windows.specs.declared.WindowInHand.{WindowInHand}
-use Rattle.windows.specs.declared.WindowInHand.TheVariants.{Absent}
 use Rattle.windows.specs.Window.{due_window}
 use Rattle.state.specs.declared.Fields.{Fields}
 use Rattle.state.specs.declared.State.{State}
@@ -21,6 +20,7 @@ use Rattle.layout.specs.Layout.{none}
 use Rattle.layout.specs.Overlay.{Overlaid, overlaid}
 use Rattle.codes.specs.declared.CodeSettings.{CodeSettings}
 use Rattle.codes.specs.Codes.{Drawing, blank}
+use Rattle.windows.specs.declared.Window.{Window}
 use Rattle.cells.specs.Cells.{row_cells}
 use Rattle.plan.specs.Plan.{Plan, next_fields, planned}
 use Rattle.row.specs.Row.{code_settings, Row, drawn_by, row, with_cursor}
@@ -40,26 +40,26 @@ pub record Plain (σ : Settings) (m : List ℕ) (s : State) (r : Row) : Type 0 w
   pub read : run m (background_block σ.linear s.fields.next s.fields.format) ≡ given words ground
   pub drawn-words : ℕ
   pub drawn : run m (row_cells (code_settings σ) s.fields.fill none ground.block.segments (blank s.latch)) ≡ given drawn-words r.drawing
-  pub leads : r.next ≡ next_fields s.fields ground.format ground.block.link Absent
+  pub leads : r.next ≡ next_fields s.fields ground.format ground.block.link None
 
 module _ (σ : Settings) (m : List ℕ) where
-  plain-due : (row n k : ℕ) {w v : WindowInHand} → w ≡ Absent → run_from n m (due_window σ.linear row w) ≡ given k v → v ≡ Absent
+  plain-due : (row n k : ℕ) {w v : Option Window} → w ≡ None → run_from n m (due_window σ.linear row w) ≡ given k v → v ≡ None
   unfolding due_window run_from
-  plain-due row n k {w} {v} e c = let h : given n Absent ≡ given k v = rw e at c in cc
+  plain-due row n k {w} {v} e c = let h : given n None ≡ given k v = rw e at c in cc
 
-  plain_over : (row n k : ℕ) {w : WindowInHand} {o : Overlaid} → w ≡ Absent → run_from n m (overlaid σ row w) ≡ given k o
-      → record { overlay = none; window = Absent } ≡ o
+  plain_over : (row n k : ℕ) {w : Option Window} {o : Overlaid} → w ≡ None → run_from n m (overlaid σ row w) ≡ given k o
+      → record { overlay = none; window = None } ≡ o
   unfolding overlaid run_from
-  plain_over row n k {w} {o} e c = let h : given n (record { overlay = none; window = Absent }) ≡ given k o = rw e at c in cc
+  plain_over row n k {w} {o} e c = let h : given n (record { overlay = none; window = None }) ≡ given k o = rw e at c in cc
 
-  pub row_plain : (s : State) → s.fields.window ≡ Absent → {n : ℕ} {r : Row} → run m (row σ s) ≡ given n r → Plain σ m s r
+  pub row_plain : (s : State) → s.fields.window ≡ None → {n : ℕ} {r : Row} → run m (row σ s) ≡ given n r → Plain σ m s r
   row_plain s w {r} e =
       let k = row-origins σ m s e in
       let o = k.origin in
       let over = plain_over s.fields.row _ _ (plain-due s.fields.row _ _ w o.due-read) o.over-read in
-      let plan : planned s.fields o.ground (record { overlay = none; window = Absent }) ≡ k.plan =
+      let plan : planned s.fields o.ground (record { overlay = none; window = None }) ≡ k.plan =
       ap (planned s.fields o.ground) over ∙ o.same in
-      let own : drawn_by (planned s.fields o.ground (record { overlay = none; window = Absent })) k.drawing ≡ r =
+      let own : drawn_by (planned s.fields o.ground (record { overlay = none; window = None })) k.drawing ≡ r =
       ap (λ (p : Plan). drawn_by p k.drawing) plan ∙ k.same in
       let cells = from_start k.drawn-from m _ (rw (← plan) at k.drawn) in
       record {
@@ -91,18 +91,18 @@ module _ (σ : Settings) (m : List ℕ) where
   restart g (step h e c k) =
       step (record { latch = g.latch ∙ h.latch; fill = g.fill ∙ h.fill; next = g.next ∙ h.next; window = g.window ∙ h.window }) e c k
 
-  pub trace-then : {s t u : State} {rs : List FrameRow} {o : Option State} {qs : List PictureRow} → Successive σ m s rs o → o ≡ some t → GoesOn t u
+  pub trace-then : {s t u : State} {rs : List FrameRow} {o : Maybe State} {qs : List PictureRow} → Successive σ m s rs o → o ≡ some t → GoesOn t u
       → Trace σ m u qs → Trace σ m s (picture_rows σ m s rs ++ qs)
   unfolding picture_rows picture_row
   trace-then {t} (stops {s}) e g k = let same : s ≡ t = cc in rw same (restart g k)
   trace-then (draws l e k) h g c = step (record { latch = refl; fill = refl; next = refl; window = refl }) e refl (trace-then k h g c)
 
-  pub trace : {s : State} {rs : List FrameRow} {o : Option State} → Successive σ m s rs o → Trace σ m s (picture_rows σ m s rs)
+  pub trace : {s : State} {rs : List FrameRow} {o : Maybe State} → Successive σ m s rs o → Trace σ m s (picture_rows σ m s rs)
   unfolding picture_rows picture_row
   trace stops = end
   trace (draws l e k) = step (record { latch = refl; fill = refl; next = refl; window = refl }) e refl (trace k)
 
-never-some : {A B : Type 0} {a : A} → ◌≡◌ {A = Option A} nothing (some a) → B
+never-some : {A B : Type 0} {a : A} → ◌≡◌ {A = Maybe A} nothing (some a) → B
 never-some e = refuses-none (sym e)
 
 -- ---- two lists ----
@@ -111,8 +111,8 @@ pub record Similar (s t : State) : Type 0 where
   pub latch : s.latch ≡ t.latch
   pub fill : s.fields.fill ≡ t.fields.fill
   pub next : s.fields.next.address ≡ t.fields.next.address
-  pub plain : s.fields.window ≡ Absent
-  pub plain' : t.fields.window ≡ Absent
+  pub plain : s.fields.window ≡ None
+  pub plain' : t.fields.window ≡ None
 
 one-outcome : (m : List ℕ) {c d : CodeSettings} {u v : FillMode} {b b' : RowBlock} {l l' i j : ℕ} {x y : Drawing} → c ≡ d → u ≡ v → b ≡ b' → l ≡ l'
     → run m (row_cells c u none b.segments (blank l)) ≡ given i x → run m (row_cells d v none b'.segments (blank l')) ≡ given j y → x ≡ y

@@ -1,4 +1,5 @@
 -- What an accepted shift call has read, and what it gives: shift 0, or fewer lines than the row that leaves or enters is high.
+use Rattle.std.proofs.Common.{Ok}
 use mathlib.Core.Path.{◌≡◌, refl, sym, ◌∙◌}
 use mathlib.Core.Bool.{Bool, true, false}
 use mathlib.Core.List.{List}
@@ -19,7 +20,6 @@ use Rattle.scroll.specs.declared.Rate.{Rate}
 use Rattle.scroll.specs.declared.Offset.{Offset}
 use Rattle.scroll.specs.declared.Scroll.{Scroll}
 use Rattle.scroll.specs.declared.FrameShift.{FrameShift}
-use Rattle.scroll.specs.declared.ShiftAnswer.TheVariants.{Accepted}
 use Rattle.scroll.specs.Rate.{rate}
 use Rattle.scroll.specs.Scroll.{signed, in_range, from_last, moved, shifted, still, reached, edge_lines, shift_by, shift_from, shift, shift_answered, shift_call}
 use Rattle.scroll.proofs.ShiftBound.{lines-back, edge-reads}
@@ -49,11 +49,11 @@ module _ (σ : Settings) (m : List ℕ) (soft : PointerWords) where
       on read h start.1 (cc)
   by-enable last hard read false h e = off read h (cc)
 
-  pub call-gives : (last : Scroll) {s : FrameShift} → shift_call σ m soft last ≡ Accepted s → Gives last s
+  pub call-gives : (last : Scroll) {s : FrameShift} → shift_call σ m soft last ≡ Ok s → Gives last s
   unfolding shift_call shift shift_by
   call-gives last {s} e = by (run m (shift σ soft last)) refl e
     where
-      by : (o : Outcome FrameShift) → run m (shift σ soft last) ≡ o → shift_answered o ≡ Accepted s → Gives last s
+      by : (o : Outcome FrameShift) → run m (shift σ soft last) ≡ o → shift_answered o ≡ Ok s → Gives last s
       by (given n t) h k =
           let same : t ≡ s = cc in
           let good = settings-passed 0 m σ (λ _. shift_from σ soft last) h in

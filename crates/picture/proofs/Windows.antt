@@ -1,8 +1,9 @@
 -- What a line shows in the columns of a window and elsewhere, and where every shown cell is from.
+use Rattle.std.proofs.Common.{Option, Some, None}
 use mathlib.Core.Path.{◌≡◌, refl, ap, sym, ◌∙◌}
 use mathlib.Core.Bool.{Bool, true, false}
 use mathlib.Core.List.{List, [], ◌∷◌, ◌++◌}
-use mathlib.Core.Option.{Option, none, some}
+use mathlib.Core.Option.{Option as Maybe, none, some}
 use Prim.Native.Nat.{ℕ, zero, suc, ◌<◌}
 use native.Mathlib.Omega.{arith}
 use lib.IntN.{ℤ, pos, nat_abs}
@@ -12,12 +13,11 @@ use Rattle.memory.specs.Word.{when◌then◌else◌}
 use Rattle.memory.proofs.ReadBounds.{Words, if-cases}
 use Rattle.settings.specs.declared.PointerWords.{PointerWords}
 use Rattle.settings.specs.declared.Settings.{Settings}
-use Rattle.panel.specs.declared.Placed.{Placed}
-use Rattle.panel.specs.declared.Placed.TheVariants.{Nowhere, At}
 use Rattle.panel.specs.declared.Background.{Background}
 use Rattle.panel.specs.declared.Background.TheVariants.{Nothing, Row, Above}
 use Rattle.panel.specs.Line.{is_down}
 use Rattle.panel.specs.Shown.{in_columns, nothing, cell_in, cursor_bit, background_cell, with_cursor_of}
+use Rattle.panel.specs.declared.Place.{Place}
 use Rattle.picture.specs.Picture.{PictureRow, Picture, picture, line_on, first, still_row, gliding_row, layer_of, behind_of, shown_on}
 use Rattle.picture.specs.Still.{still_on, gliding_on}
 use Rattle.picture.specs.Windows.{in_window, shown_in, still_in, ShowsWindows, WindowsStandStill, NoWindow, NoWindowElsewhere, RowIn, of_frame, of_below, of_above, From, dark, of_row, behind, but_for_cursor, ShownFrom, ShowsNothingElse}
@@ -60,18 +60,18 @@ module _ (a b : ℤ) (soft : PointerWords) (latch : ℕ) (σ : Settings) (m : Li
   unfolding picture
   same_line = still-place p y ∙ sym (still-place q y)
 
-  same_rows : (z : Placed) → still_row p z ≡ still_row q z
+  same_rows : (z : Option Place) → still_row p z ≡ still_row q z
   unfolding picture
-  same_rows Nowhere = refl
-  same_rows (At s) = refl
+  same_rows None = refl
+  same_rows (Some s) = refl
 
   same-still : still_on p y ≡ still_on q y
   same-still = ap (still_row p) same_line ∙ same_rows (line_on q y).still
 
   same-cells : (x : ℕ) → x < 132 → in_window p y x ≡ true → shown_in p y x ≡ shown_in q y x
   same-cells x l h =
-      let in_q = ap (λ (s : Option PictureRow). in_columns (layer_of s).columns x) (sym same-still) ∙ h in
-      shows-windows p y x l h ∙ ap (λ (s : Option PictureRow). cell_in (layer_of s).cells x) same-still ∙ sym (shows-windows q y x l in_q)
+      let in_q = ap (λ (s : Maybe PictureRow). in_columns (layer_of s).columns x) (sym same-still) ∙ h in
+      shows-windows p y x l h ∙ ap (λ (s : Maybe PictureRow). cell_in (layer_of s).cells x) same-still ∙ sym (shows-windows q y x l in_q)
 
 pub windows-stand-still : WindowsStandStill
 windows-stand-still a b soft latch σ m y = record {
@@ -94,9 +94,9 @@ module _ (p : Picture) {r : PictureRow} where
   of-both zero (q ∷ rs) frame e = frame 0 e
   of-both (suc k) (q ∷ rs) frame e = of-both k rs (λ j h. frame (suc j) h) e
 
-  pub still-in : (z : Placed) → still_row p z ≡ some r → RowIn p r
-  still-in Nowhere e = let z : ◌≡◌ {A = ℕ} 0 1 = cc in absurd (omega arith)
-  still-in (At s) e = of_frame s.index e
+  pub still-in : (z : Option Place) → still_row p z ≡ some r → RowIn p r
+  still-in None e = let z : ◌≡◌ {A = ℕ} 0 1 = cc in absurd (omega arith)
+  still-in (Some s) e = of_frame s.index e
 
   pub gliding-in : (z : Background) → gliding_row p z ≡ some r → RowIn p r
   gliding-in Nothing e = let z : ◌≡◌ {A = ℕ} 0 1 = cc in absurd (omega arith)
@@ -110,7 +110,7 @@ data Gliding (p : Picture) (x : ℕ) : ℕ → Type 0 where
   inside : {r : PictureRow} → RowIn p r → in_columns r.columns x ≡ true → Gliding p x (cell_in r.behind x)
 
 module _ (p : Picture) (x : ℕ) where
-  by_row : (b : Option PictureRow) → ((r : PictureRow) → b ≡ some r → RowIn p r)
+  by_row : (b : Maybe PictureRow) → ((r : PictureRow) → b ≡ some r → RowIn p r)
       → Gliding p x (background_cell (layer_of b) (behind_of b) (layer_of b).cells x)
   by_row none h = no_row
   by_row (some r) h = by r.cells
@@ -128,7 +128,7 @@ module _ (p : Picture) (x : ℕ) where
   gliding-from (inside r e) = behind r e
 
   -- the cell of the row that stands still, where there is one
-  still-from : (s : Option PictureRow) → ((r : PictureRow) → s ≡ some r → RowIn p r) → From p x (cell_in (layer_of s).cells x)
+  still-from : (s : Maybe PictureRow) → ((r : PictureRow) → s ≡ some r → RowIn p r) → From p x (cell_in (layer_of s).cells x)
   still-from none h = dark
   still-from (some r) h = of_row (h r refl)
 

@@ -1,5 +1,5 @@
 -- A frame after its shift call: how far the shift goes, and how it moves from call to call.
-use Rattle.std.specs.Prelude.{ℕ, ◌+◌, ◌-◌, ◌≤◌, ◌<◌, ◌≡◌, true, false, List, pos, nat_abs}
+use Rattle.std.specs.Prelude.{ℕ, ◌+◌, ◌-◌, ◌≤◌, ◌<◌, ◌≡◌, true, false, List, pos, nat_abs, Ok}
 use Rattle.std.proofs.Math.Option.{some}
 use Rattle.memory.specs.Reading.{given, run}
 use Rattle.settings.specs.declared.PointerWords.{PointerWords}
@@ -9,7 +9,6 @@ use Rattle.start.specs.Top.{enabled, rate_number, top_block}
 use Rattle.beside.specs.Beside.{with_top}
 use Rattle.scroll.specs.declared.Scroll.{Scroll}
 use Rattle.scroll.specs.declared.FrameShift.{FrameShift}
-use Rattle.scroll.specs.declared.ShiftAnswer.TheVariants.{Accepted}
 use Rattle.scroll.specs.Rate.{rate}
 use Rattle.scroll.specs.Scroll.{edge_lines, shift_call}
 use Rattle.panel.specs.declared.Background.TheVariants.{Row}
@@ -21,7 +20,7 @@ use Rattle.picture.specs.Still.{WordsFit}
 -- `shift`) or of the row above." The frame has the hard top that the call gave.
 abbrev pub BelowFirstRow : Type 0
 BelowFirstRow = (σ : Settings) (m : List ℕ) → WordsFit m → (soft : PointerWords) (last : Scroll) (s : FrameShift)
-    → shift_call σ m soft last ≡ Accepted s → (latch : ℕ) (r : PictureRow)
+    → shift_call σ m soft last ≡ Ok s → (latch : ℕ) (r : PictureRow)
     → let shift = s.scroll.shift in
     let p = picture shift soft latch (with_top σ s.top) m in
     (is_down shift ≡ false → first p.rows ≡ some r
@@ -39,7 +38,7 @@ pub data Moves (lines n : ℕ) (hard soft : PointerWords) (s t : FrameShift) : T
 -- to the rate's lines"
 abbrev pub Motion : Type 0
 Motion = (σ : Settings) (m : List ℕ) → WordsFit m → (soft : PointerWords) (last : Scroll) (s t : FrameShift)
-    → shift_call σ m soft last ≡ Accepted s → shift_call σ m soft s.scroll ≡ Accepted t
+    → shift_call σ m soft last ≡ Ok s → shift_call σ m soft s.scroll ≡ Ok t
     → (hard : MainBlock) (i k n : ℕ) → run m (top_block σ.linear σ.top) ≡ given i hard → enabled hard ≡ true
     → run m (edge_lines σ.linear soft hard) ≡ given k n
     → Moves (rate (rate_number hard)).lines n σ.top soft s t

@@ -1,14 +1,13 @@
 -- The row beside the cut (`beside_call`) is the row of the picture that comes in first: it has the same number, format and cells, and is
 -- refused where no row comes in. Their lines differ: there it is given one line, here the shift.
-use Rattle.std.specs.Prelude.{ℕ, suc, ◌+◌, ◌<◌, ◌≤◌, ◌≡◌, List, [], ◌∷◌, pos, negsuc, length}
+use Rattle.std.specs.Prelude.{ℕ, suc, ◌+◌, ◌<◌, ◌≤◌, ◌≡◌, List, [], ◌∷◌, pos, negsuc, length, Option, Some, None, Result, Ok, Err}
 use Rattle.std.proofs.Math.Option.{none, some}
+use Rattle.memory.specs.declared.Refusal.{Refusal}
 use Rattle.settings.specs.declared.PointerWords.{PointerWords}
 use Rattle.settings.specs.declared.Settings.{Settings}
 use Rattle.state.specs.declared.State.{State}
 use Rattle.frame.specs.Frame.{frame}
 use Rattle.beside.specs.declared.BesideRow.{BesideRow}
-use Rattle.beside.specs.declared.BesideAnswer.{BesideAnswer}
-use Rattle.beside.specs.declared.BesideAnswer.TheVariants.{Absent, Drawn, Refused}
 use Rattle.beside.specs.Beside.{BesideCalled, beside_call}
 use Rattle.picture.specs.Picture.{PictureRow, frame_rows, picture, first}
 use Rattle.picture.specs.Still.{WordsFit}
@@ -20,13 +19,13 @@ pub record OneRow (d : BesideRow) (buffer : List ℕ) (r : PictureRow) : Type 0 
   pub cells : r.cells ≡ buffer
 
 -- the row beside the cut, and the rows that come in: the first of them, or none where it is refused
-abbrev pub FirstOf : List PictureRow → BesideAnswer → (buffer : List ℕ) → Type 0
-FirstOf (r ∷ rs) (Drawn d) buffer = OneRow d buffer r
-FirstOf (r ∷ rs) (Refused x) buffer = ⊥
-FirstOf (r ∷ rs) Absent buffer = ⊥
-FirstOf [] (Drawn d) buffer = ⊥
-FirstOf [] (Refused x) buffer = Unit
-FirstOf [] Absent buffer = Unit
+abbrev pub FirstOf : List PictureRow → Result (Option BesideRow) Refusal → (buffer : List ℕ) → Type 0
+FirstOf (r ∷ rs) (Ok (Some d)) buffer = OneRow d buffer r
+FirstOf (r ∷ rs) (Err x) buffer = ⊥
+FirstOf (r ∷ rs) (Ok None) buffer = ⊥
+FirstOf [] (Ok (Some d)) buffer = ⊥
+FirstOf [] (Err x) buffer = Unit
+FirstOf [] (Ok None) buffer = Unit
 
 abbrev pub IsFirst : BesideCalled → List PictureRow → Type 0
 IsFirst c rs = FirstOf rs c.answer c.buffer

@@ -1,34 +1,29 @@
 -- The picture of a shifted frame. Document 02: "Long bulletins should glide; windows stand still." What a panel shows of it, line by
 -- line, is ours: the rows are those of starts and row calls, and no rule of a row is said again.
-use Rattle.std.specs.Prelude.{ℕ, ◌&&◌, List, [], ◌∷◌, ◌++◌, map, ℤ, pos, nat_abs, length, drop, leb}
-use Rattle.std.proofs.Math.Option.{Option, none, some}
+use Rattle.std.specs.Prelude.{ℕ, ◌&&◌, List, [], ◌∷◌, ◌++◌, map, ℤ, pos, nat_abs, length, drop, leb, Option, Some, None, Result, Ok, Err}
+use Rattle.std.proofs.Math.Option.{Option as Maybe, none, some}
 use Rattle.std.specs.Int.Signed.{lt_z}
 use Rattle.memory.specs.Word.{when◌then◌else◌}
 use Rattle.memory.specs.declared.Refusal.{Refusal}
 use Rattle.settings.specs.declared.PointerWords.{PointerWords}
 use Rattle.settings.specs.declared.Settings.{Settings}
 use Rattle.blocks.specs.declared.RowFormat.{RowFormat}
-use Rattle.windows.specs.declared.WindowInHand.{WindowInHand}
-use Rattle.windows.specs.declared.WindowInHand.TheVariants as InHand
+use Rattle.windows.specs.declared.Window.{Window}
 use Rattle.state.specs.declared.State.{State}
 use Rattle.state.specs.State.{state_of}
-use Rattle.row.specs.declared.RowAnswer.{RowAnswer}
-use Rattle.row.specs.declared.RowAnswer.TheVariants as Answer
 use Rattle.row.specs.Row.{Called, row_call}
 use Rattle.frame.specs.declared.Progress.{Progress}
-use Rattle.frame.specs.declared.BeginAnswer.{BeginAnswer}
-use Rattle.frame.specs.declared.BeginAnswer.TheVariants as Begin
 use Rattle.frame.specs.Step.{begin}
 use Rattle.frame.specs.Frame.{FrameRow, Frame, blank, within, rest, frame}
 use Rattle.beside.specs.Beside.{with_top}
 use Rattle.panel.specs.declared.Columns.{Columns}
-use Rattle.panel.specs.declared.Placed.{Placed}
-use Rattle.panel.specs.declared.Placed.TheVariants.{Nowhere, At}
 use Rattle.panel.specs.declared.Background.{Background}
 use Rattle.panel.specs.declared.Background.TheVariants.{Nothing, Row, Above}
 use Rattle.panel.specs.declared.Line.{Line}
 use Rattle.panel.specs.Line.{is_down, line}
 use Rattle.panel.specs.Shown.{Layer, layer, no_columns, shown}
+use Rattle.panel.specs.declared.Place.{Place}
+use Rattle.row.specs.declared.DrawnRow.{DrawnRow}
 
 -- A row of the picture is an accepted row call: number, format, cells; its height, the scan lines of the next state (its lines may be
 -- cut, or be the one of the row beside the cut); the columns of the window on it; and what is behind that window.
@@ -42,9 +37,9 @@ pub record PictureRow : Type 0 where
 
 -- the columns of the next state's window in hand, where "On its rows a window replaces its columns"; source 2 does not tell them, as
 -- fill in a window has source 0
-unfoldable pub columns_of : ℕ → WindowInHand → Columns
-columns_of number InHand.Absent = no_columns
-columns_of number (InHand.Present w) =
+unfoldable pub columns_of : ℕ → Option Window → Columns
+columns_of number None = no_columns
+columns_of number (Some w) =
     when leb w.block.top number && leb number w.block.bottom
     then record { first = w.block.left; last = w.block.right }
     else no_columns
@@ -58,14 +53,14 @@ without_window s = state_of s.latch (record {
   fill = s.fields.fill;
   format = s.fields.format;
   next = s.fields.next;
-  window = InHand.Absent;
+  window = None;
 })
 
 -- Behind a row that has columns: the cells of the same row call on the state before the row with no window in hand; none where that is
 -- refused. Its state, latch, count and refusal go nowhere.
-abbrev pub cells_if : RowAnswer → List ℕ → List ℕ
-cells_if (Answer.Accepted d) cells = cells
-cells_if (Answer.Refused r) cells = []
+abbrev pub cells_if : Result DrawnRow Refusal → List ℕ → List ℕ
+cells_if (Ok d) cells = cells
+cells_if (Err r) cells = []
 
 abbrev pub accepted_cells : Called → List ℕ
 accepted_cells c = cells_if c.answer c.buffer
@@ -93,9 +88,9 @@ picture_rows σ m before (r ∷ rs) = picture_row σ m before r ∷ picture_rows
 abbrev pub rows_from : Settings → List ℕ → Progress → List PictureRow
 rows_from σ m p = picture_rows σ m p.state (rest σ m p).rows
 
-abbrev pub begun_rows : Settings → List ℕ → BeginAnswer → List PictureRow
-begun_rows σ m (Begin.Begun p) = rows_from σ m p
-begun_rows σ m (Begin.Refused r) = []
+abbrev pub begun_rows : Settings → List ℕ → Result Progress Refusal → List PictureRow
+begun_rows σ m (Ok p) = rows_from σ m p
+begun_rows σ m (Err r) = []
 
 -- the frame's accepted rows
 unfoldable pub frame_rows : ℕ → Settings → List ℕ → List PictureRow
@@ -117,7 +112,7 @@ with_lines n s = state_of s.latch (record {
 abbrev pub onward : ℕ → State → Progress
 onward n s = record { state = with_lines n s; words = 0 }
 
-abbrev pub below_of : Settings → List ℕ → ℕ → Option Refusal → Option State → List PictureRow
+abbrev pub below_of : Settings → List ℕ → ℕ → Maybe Refusal → Maybe State → List PictureRow
 below_of σ m n none (some s) = rows_from σ m (onward n s)
 below_of σ m n none none = []
 below_of σ m n (some r) s = []
@@ -127,9 +122,9 @@ below_rows σ m n f = below_of σ m n f.refusal f.state
 
 -- The row that comes in above: row 0 of a start at the soft top from the frame's start latch, where both are accepted. A refusal of rows
 -- that come in is no part of the frame's.
-abbrev pub first_row : Settings → List ℕ → BeginAnswer → List PictureRow
-first_row σ m (Begin.Begun p) = picture_rows σ m p.state (within 1 σ m p).rows
-first_row σ m (Begin.Refused r) = []
+abbrev pub first_row : Settings → List ℕ → Result Progress Refusal → List PictureRow
+first_row σ m (Ok p) = picture_rows σ m p.state (within 1 σ m p).rows
+first_row σ m (Err r) = []
 
 unfoldable pub above_row : ℕ → Settings → List ℕ → List PictureRow
 above_row latch σ m = first_row σ m (begin latch σ m)
@@ -140,7 +135,7 @@ pub record Picture : Type 0 where
   pub above : List PictureRow
   pub rows : List PictureRow
   pub below : List PictureRow
-  pub refusal : Option Refusal
+  pub refusal : Maybe Refusal
 
 unfoldable pub picture : ℤ → (soft : PointerWords) → ℕ → Settings → List ℕ → Picture
 picture shift soft latch σ m = record {
@@ -164,31 +159,31 @@ unfoldable pub line_on : Picture → ℕ → Line
 line_on p y = line p.shift (height_above p.above) (heights_of (p.rows ++ p.below)) (length p.rows) y
 
 -- the first of rows, if there is one
-abbrev pub first : List PictureRow → Option PictureRow
+abbrev pub first : List PictureRow → Maybe PictureRow
 first [] = none
 first (r ∷ rs) = some r
 
 -- the row that stands still on a line, and the row that glides there
-abbrev pub still_row : Picture → Placed → Option PictureRow
-still_row p Nowhere = none
-still_row p (At s) = first (drop s.index p.rows)
+abbrev pub still_row : Picture → Option Place → Maybe PictureRow
+still_row p None = none
+still_row p (Some s) = first (drop s.index p.rows)
 
-abbrev pub gliding_row : Picture → Background → Option PictureRow
+abbrev pub gliding_row : Picture → Background → Maybe PictureRow
 gliding_row p Nothing = none
 gliding_row p (Row b) = first (drop b.index (p.rows ++ p.below))
 gliding_row p (Above b) = first p.above
 
 -- a row's cells with its columns, and what is behind it
-abbrev pub layer_of : Option PictureRow → Layer
+abbrev pub layer_of : Maybe PictureRow → Layer
 layer_of none = layer [] no_columns
 layer_of (some r) = layer r.cells r.columns
 
-abbrev pub behind_of : Option PictureRow → List ℕ
+abbrev pub behind_of : Maybe PictureRow → List ℕ
 behind_of none = []
 behind_of (some r) = r.behind
 
 -- the cells of a line
-abbrev pub shown_of : Option PictureRow → Option PictureRow → List ℕ
+abbrev pub shown_of : Maybe PictureRow → Maybe PictureRow → List ℕ
 shown_of s b = shown (layer_of s) (layer_of b) (behind_of b)
 
 abbrev pub shown_at : Picture → Line → List ℕ

@@ -1,4 +1,5 @@
 -- What the plan of a row comes to: a law for each way through its definitions, from what the readings in it come to.
+use Rattle.std.proofs.Common.{Option}
 use mathlib.Core.Path.{◌≡◌, ◌∙◌}
 use mathlib.Core.Bool.{true, false}
 use mathlib.Core.List.{List}
@@ -12,9 +13,9 @@ use Rattle.memory.proofs.Laws.{bind-given, bind-refused, step_given, step-refuse
 use Rattle.memory.proofs.ReadBounds.{Words, reads-given}
 use Rattle.settings.specs.declared.Settings.{Settings}
 use Rattle.settings.specs.Good.{check_settings}
-use Rattle.windows.specs.declared.WindowInHand.{WindowInHand}
 use Rattle.windows.specs.Window.{due_window}
 use Rattle.windows.proofs.WindowBounds.{due-reads}
+use Rattle.windows.specs.declared.Window.{Window}
 use Rattle.state.specs.declared.Fields.{Fields}
 use Rattle.state.specs.State.{in_range}
 use Rattle.state.proofs.StateLaws.{placed}
@@ -31,7 +32,7 @@ module _ (m : List ℕ) (σ : Settings) (f : Fields) where
       → run m (due_window σ.linear f.row f.window) ≡ refused x → run m (from_blocks σ f) ≡ refused x
   window-refused e = bind-refused 0 m (due_window σ.linear f.row f.window) _ e
 
-  module _ {i : ℕ} {w : WindowInHand} (e : run m (due_window σ.linear f.row f.window) ≡ given i w) where
+  module _ {i : ℕ} {w : Option Window} (e : run m (due_window σ.linear f.row f.window) ≡ given i w) where
     pub background-refused : {x : Fault} → run m (background_row σ f) ≡ refused x → run m (from_blocks σ f) ≡ refused x
     background-refused d = bind-given 0 m (due_window σ.linear f.row f.window) _ e ∙ step-refused i m (background_row σ f) _ d
 

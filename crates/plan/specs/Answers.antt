@@ -1,11 +1,10 @@
 -- What the functions of this crate give, as what the rules give: no rules of their own.
-use Rattle.std.specs.Prelude.{ℕ, Bool, List}
+use Rattle.std.specs.Prelude.{ℕ, Bool, List, Result, Ok, Err}
 use Rattle.memory.specs.Reading.{Outcome, given, refused}
+use Rattle.memory.specs.declared.Fault.{Fault}
 use Rattle.blocks.specs.RowBlock.{segments_of}
 use Rattle.layout.specs.Answers.{overlay_of}
 use Rattle.plan.specs.declared.PlanHead.{PlanHead}
-use Rattle.plan.specs.declared.PlanAnswer.{PlanAnswer}
-use Rattle.plan.specs.declared.PlanAnswer.TheVariants.{Planned, Refused}
 use Rattle.plan.specs.Plan.{Plan}
 
 -- a plan, from what `plan_row` gives and the words of the background's and the window's segments
@@ -19,6 +18,6 @@ plan_of linear p bs os = record {
 }
 
 -- the answer of `plan_row` as an outcome. What the words are past the segments counted, and after a refusal, is left free.
-abbrev pub plan_answer : Bool → PlanAnswer → List ℕ → List ℕ → Outcome Plan
-plan_answer linear (Planned p) bs os = given p.words (plan_of linear p bs os)
-plan_answer linear (Refused x) bs os = refused x
+abbrev pub plan_answer : Bool → Result PlanHead Fault → List ℕ → List ℕ → Outcome Plan
+plan_answer linear (Ok p) bs os = given p.words (plan_of linear p bs os)
+plan_answer linear (Err x) bs os = refused x

@@ -1,14 +1,14 @@
 -- What a row is drawn from, before any cell: checks 2, 17, 3 and 4, a due window, the row block and its redefinition, 9, 10, the window
 -- row block, 9, 11, and 12. It asks for no latch.
-use Rattle.std.specs.Prelude.{ℕ, ◌+◌, ◌-◌, min, List, ltb}
+use Rattle.std.specs.Prelude.{ℕ, ◌+◌, ◌-◌, min, List, ltb, Option}
 use Rattle.memory.specs.declared.Pointer.{Pointer}
 use Rattle.memory.specs.Reading.{Reading, done, ◌>>=◌, ◌>>◌, check}
 use Rattle.settings.specs.declared.Settings.{Settings}
 use Rattle.settings.specs.Good.{check_settings}
 use Rattle.blocks.specs.declared.Segment.{Segment}
 use Rattle.blocks.specs.declared.RowFormat.{RowFormat}
-use Rattle.windows.specs.declared.WindowInHand.{WindowInHand}
 use Rattle.windows.specs.Window.{due_window}
+use Rattle.windows.specs.declared.Window.{Window}
 use Rattle.state.specs.declared.Fields.{Fields}
 use Rattle.state.specs.State.{in_range}
 use Rattle.layout.specs.Layout.{Overlay, edges_fit}
@@ -27,7 +27,7 @@ abbrev pub lines_taken : RowFormat → ℕ → ℕ
 lines_taken format left = min format.lines left
 
 -- the fields of the next state, whose row block is at `link`
-unfoldable pub next_fields : Fields → RowFormat → Pointer → WindowInHand → Fields
+unfoldable pub next_fields : Fields → RowFormat → Pointer → Option Window → Fields
 next_fields f format link window = record {
   row = f.row + 1;
   left = f.left - lines_taken format f.left;

@@ -11,9 +11,9 @@ use blocks::{Cursor, FillMode, RowFormat, SegmentCount};
 use layout::overlay::OverlayRead;
 use layout::{OverlayHead, overlay};
 use memory::{Fault, Pointer};
-use settings::{Settings, SettingsCheck};
+use settings::Settings;
 use state::Fields;
-use windows::{WindowInHand, WindowRead};
+use windows::{Window, WindowRead};
 
 // A row's plan but for the segments: `count` of the background's, and the words read.
 #[derive(Clone, Copy)]
@@ -21,16 +21,9 @@ pub struct PlanHead {
     pub lines: u16,
     pub format: RowFormat,
     pub count: SegmentCount,
-    pub overlay: OverlayHead,
+    pub overlay: Option<OverlayHead>,
     pub next: Fields,
     pub words: u32,
-}
-
-// The plan of a row, or the refusal of a check or a reading.
-#[derive(Clone, Copy)]
-pub enum PlanAnswer {
-    Planned(PlanHead),
-    Refused(Fault),
 }
 
 // The plan of a row, with the words of its background segments in `back` and of its window's in `over`.
@@ -40,16 +33,12 @@ pub fn plan_row(
     fields: Fields,
     back: &mut [u16; 75],
     over: &mut [u16; 75],
-) -> PlanAnswer
+) -> Result<PlanHead, Fault>
     ensures { plan_answer settings.linear result back.new over.new ≡ run mem.now (plan settings fields) }
 {
-    match settings::check_settings(settings) {
-        SettingsCheck::Refused(fault) => PlanAnswer::Refused(fault),
-        SettingsCheck::Passed => {
-            let linear = written_linear(settings);
-            plan_state(mem, linear, fields, back, over)
-        }
-    }
+    settings::check_settings(settings)?;
+    let linear = written_linear(settings);
+    plan_state(mem, linear, fields, back, over)
 }
 
 // The same settings, with `linear` written out: what is called with them is compiled for linear memory alone.
@@ -69,7 +58,7 @@ pub fn plan_state(
     fields: Fields,
     back: &mut [u16; 75],
     over: &mut [u16; 75],
-) -> PlanAnswer
+) -> Result<PlanHead, Fault>
     ensures { plan_answer settings.linear result back.new over.new ≡ run mem.now (from_state settings fields) }
 {
     if !state::in_range(fields) {
@@ -88,70 +77,56 @@ fn plan_blocks(
     fields: Fields,
     back: &mut [u16; 75],
     over: &mut [u16; 75],
-) -> PlanAnswer
+) -> Result<PlanHead, Fault>
     requires { (in_range fields ≡ true) × (fields.row < 4095) }
     ensures { plan_answer settings.linear result back.new over.new ≡ run mem.now (from_blocks settings fields) }
 {
     let in_hand = fields.window;
-    match windows::due_window(mem, settings.linear, fields.row, in_hand) {
-        WindowRead::Read { window, words } => match background::background_row(
-            mem, settings, fields, back,
-        ) {
-            BackgroundRead::Read { block, format } => {
-                match overlay::overlay_row(mem, settings, fields.row, window, over) {
-                    OverlayRead::Read {
-                        overlay,
-                        window,
-                        words: more,
-                    } => {
-                        let count = block.count;
-                        if overlay::edges_fit(
-                            settings.linear,
-                            settings.hidden,
-                            overlay,
-                            back,
-                            count,
-                        ) {
-                            let link = block.link;
-                            let next = next_fields(fields, format, link, window);
-                            PlanAnswer::Planned(PlanHead {
-                                lines: lines_taken(format, fields.left),
-                                format,
-                                count,
-                                overlay,
-                                next,
-                                words: words + block.words + more,
-                            })
-                        } else {
-                            refused(12)
-                        }
-                    }
-                    OverlayRead::Refused(fault) => PlanAnswer::Refused(fault),
-                }
-            }
-            BackgroundRead::Refused(fault) => PlanAnswer::Refused(fault),
-        },
-        WindowRead::Refused(fault) => PlanAnswer::Refused(fault),
+    let WindowRead { window, words } = windows::due_window(
+        mem,
+        settings.linear,
+        fields.row,
+        in_hand,
+    )?;
+    let BackgroundRead { block, format } = background::background_row(mem, settings, fields, back)?;
+    let OverlayRead {
+        overlay,
+        window,
+        words: more,
+    } = overlay::overlay_row(mem, settings, fields.row, window, over)?;
+    let count = block.count;
+    if overlay::edges_fit(settings.linear, settings.hidden, overlay, back, count) {
+        let link = block.link;
+        let next = next_fields(fields, format, link, window);
+        Ok(PlanHead {
+            lines: lines_taken(format, fields.left),
+            format,
+            count,
+            overlay,
+            next,
+            words: words + block.words + more,
+        })
+    } else {
+        refused(12)
     }
 }
 
 // The refusal of a check.
-fn refused(number: u8) -> PlanAnswer
-    ensures { result ≡ PlanAnswer.Refused (fault number) }
+fn refused(number: u8) -> Result<PlanHead, Fault>
+    ensures { result ≡ Err (fault number) }
 {
-    PlanAnswer::Refused(memory::fault_of(number))
+    Err(memory::fault_of(number))
 }
 
 // The lines that a row takes of those left.
 fn lines_taken(format: RowFormat, left: u16) -> u16
     ensures { result ≡ lines_taken format left }
 {
-    let lines = format.lines as u16;
-    if lines < left { lines } else { left }
+    left.min(format.lines as u16)
 }
 
 // The fields of the next state, whose row block is at `link`.
-fn next_fields(f: Fields, format: RowFormat, link: Pointer, window: WindowInHand) -> Fields
+fn next_fields(f: Fields, format: RowFormat, link: Pointer, window: Option<Window>) -> Fields
     requires { f.row < 4095 }
     ensures { result ≡ next_fields f format link window }
 {

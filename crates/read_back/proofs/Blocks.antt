@@ -1,4 +1,5 @@
 -- Blocks and windows that are read through pointers of 32 bits have such pointers again, and numbers that their fields can have.
+use Rattle.std.proofs.Common.{Option, Some, None}
 use mathlib.Core.Path.{◌≡◌}
 use mathlib.Core.Bool.{Bool, true, ◌&&◌}
 use mathlib.Core.List.{List}
@@ -19,8 +20,6 @@ use Rattle.blocks.specs.declared.RowFormat.{RowFormat}
 use Rattle.blocks.specs.Main.{main_block, main_block_at}
 use Rattle.blocks.specs.RowBlock.{RowBlock, segment_of, segments_at, segment_roles, rest_of_block, block_at, format_of, redefined}
 use Rattle.windows.specs.declared.Window.{Window}
-use Rattle.windows.specs.declared.WindowInHand.{WindowInHand}
-use Rattle.windows.specs.declared.WindowInHand.TheVariants.{Absent, Present}
 use Rattle.windows.specs.Window.{window_of, two_pointers, in_order, window_at, due_window}
 use Rattle.windows.proofs.WindowBounds.{Placed, in_order_lem}
 use Rattle.numbers.specs.Places.{any}
@@ -58,9 +57,9 @@ pub record WindowFits (w : Window) : Type 0 where
   pub rows : Small w.rows
   pub link : Small w.block.link
 
-abbrev pub HandFits : WindowInHand → Type 0
-HandFits Absent = Unit
-HandFits (Present w) = WindowFits w
+abbrev pub HandFits : Option Window → Type 0
+HandFits None = Unit
+HandFits (Some w) = WindowFits w
 
 segments-small : (linear : Bool) (a n : ℕ) (ws : List ℕ) → a ≤ any → Words ws → Each Pointed (segments_at linear a n ws)
 unfolding segments_at segment_of
@@ -142,9 +141,9 @@ module _ (m : List ℕ) (b : Words m) (linear : Bool) where
       check-then m SmallFault 8 p (let w = (window_of linear number p.address ws).block in in_order w && leb least w.top) (λ _. (lit≤ tt, h.1)) λ _ e.
       dones (window-fits number least p.address ws l h.0 k e)
 
-  pub due-keeps : (row : ℕ) (w : WindowInHand) → Placed w → HandFits w → Keeps m b HandFits (due_window linear row w)
+  pub due-keeps : (row : ℕ) (w : Option Window) → Placed w → HandFits w → Keeps m b HandFits (due_window linear row w)
   unfolding due_window
-  due-keeps row Absent o h = dones tt
-  due-keeps row (Present w) o h =
+  due-keeps row None o h = dones tt
+  due-keeps row (Some w) o h =
       if-comes m SmallFault (ltb w.block.bottom row)
       (λ _. window-keeps (w.block.number + 1) (w.block.bottom + 1) w.block.link (omega arith) h.link) (λ _. dones h)

@@ -1,5 +1,6 @@
 -- The state of a start, and the next state of a row from a state that fits its fields, fit their fields again; what a refusal of either
 -- tells has 32 bits.
+use Rattle.std.proofs.Common.{Option, Some, None}
 use mathlib.Core.Path.{◌≡◌, refl}
 use mathlib.Core.Bool.{Bool, true, false, not, ◌&&◌}
 use mathlib.Core.List.{List}
@@ -16,8 +17,6 @@ use Rattle.settings.specs.Good.{good, check_settings}
 use Rattle.settings.specs.Timing.{lines_in, lines_for_rows}
 use Rattle.settings.proofs.GoodLaws.{ordered}
 use Rattle.blocks.specs.RowBlock.{row_block_at, window_row_at}
-use Rattle.windows.specs.declared.WindowInHand.{WindowInHand}
-use Rattle.windows.specs.declared.WindowInHand.TheVariants.{Absent, Present}
 use Rattle.windows.specs.Window.{first_window}
 use Rattle.state.specs.declared.Fields.{Fields}
 use Rattle.state.specs.declared.State.{State}
@@ -28,6 +27,7 @@ use Rattle.layout.specs.Overlay.{Overlaid, window_row, overlaid}
 use Rattle.background.specs.Background.{BackgroundRow, background_block, background_row}
 use Rattle.plan.specs.Plan.{Plan, next_fields, plan}
 use Rattle.codes.specs.Codes.{blank}
+use Rattle.windows.specs.declared.Window.{Window}
 use Rattle.start.specs.Top.{registered, enabled, of_window, top_block}
 use Rattle.start.specs.Start.{first_fields, window_start, start_from}
 use Rattle.row.specs.Row.{code_settings, Row, row}
@@ -112,10 +112,10 @@ module _ (m : List ℕ) (b : Words m) where
     overlay : EachOver Pointed o.overlay
     window : HandFits o.window
 
-  overlaid-keeps : (σ : Settings) (at : ℕ) (w : WindowInHand) → HandFits w → Keeps m b Shown (overlaid σ at w)
+  overlaid-keeps : (σ : Settings) (at : ℕ) (w : Option Window) → HandFits w → Keeps m b Shown (overlaid σ at w)
   unfolding overlaid window_row window_row_at
-  overlaid-keeps σ at Absent h = dones (record { overlay = tt; window = tt })
-  overlaid-keeps σ at (Present w) h =
+  overlaid-keeps σ at None h = dones (record { overlay = tt; window = tt })
+  overlaid-keeps σ at (Some w) h =
       if-comes m SmallFault (leb w.block.top at && leb at w.block.bottom)
       (λ _. bind m SmallFault (block-keeps m b σ.linear false w.rows h.rows) λ k hk.
       check-then m SmallFault 9 w.rows (all_fit k.segments) (λ _. (lit≤ tt, h.rows.1)) λ _ _.

@@ -1,5 +1,6 @@
 -- A state that is read from numbers fits its fields; so do those that starts, rows and effects of rows then give, and such a state is read
 -- back as it was.
+use Rattle.std.proofs.Common.{Option, Some, None}
 use mathlib.Core.Path.{◌≡◌, refl, subst}
 use mathlib.Core.Bool.{Bool, true, false}
 use mathlib.Core.List.{List}
@@ -11,19 +12,14 @@ use Rattle.memory.specs.Word.{when◌then◌else◌, at}
 use Rattle.memory.specs.Reading.{Outcome, given, refused, run}
 use Rattle.memory.proofs.ReadBounds.{if-cases}
 use Rattle.settings.specs.declared.Settings.{Settings}
-use Rattle.windows.specs.declared.WindowInHand.{WindowInHand}
-use Rattle.windows.specs.declared.WindowInHand.TheVariants.{Absent, Present}
+use Rattle.windows.specs.declared.Window.{Window}
 use Rattle.state.specs.declared.Fields.{Fields}
 use Rattle.state.specs.declared.State.{State}
 use Rattle.state.specs.State.{state_of}
 use Rattle.start.specs.Start.{start_from, started, start_call}
 use Rattle.row.specs.Row.{Row, row, Called, answered, row_call}
 use Rattle.listed.specs.Listed.{StartListed, start_listed, RowListed, row_listed}
-use Rattle.effect.specs.declared.NextFields.{NextFields}
-use Rattle.effect.specs.declared.NextFields.TheVariants.{Reached, Unreached}
 use Rattle.effect.specs.Effect.{next_of, latch_with, outcome_for, effect_call}
-use Rattle.numbers.specs.declared.decode.SettingsIn.TheVariants as Settings-in
-use Rattle.numbers.specs.declared.decode.StateIn.TheVariants as State-in
 use Rattle.numbers.specs.Decode.{yes, settings_at, settings_in, state_fits, lines_at, format_at, window_at, fields_at, state_at, is_state, state_in}
 use Rattle.numbers.proofs.Again.{InHandHeld, Held, state-again}
 use Rattle.blame.proofs.Comes.{comes-given}
@@ -34,7 +30,7 @@ use Rattle.read_back.proofs.Rows.{FieldsFit, StateFits, RowFits, TopsFit, start-
 
 -- ---- from numbers ----
 
-taken : (t : Bool) (s u : State) → (when t then State-in.Fit s else State-in.Unfit) ≡ State-in.Fit u → s ≡ u
+taken : (t : Bool) (s u : State) → (when t then Some s else None) ≡ Some u → s ≡ u
 taken true s u e = cc
 taken false s u e = let q : ◌≡◌ {A = ℕ} 0 1 = cc in absurd (omega arith)
 
@@ -72,26 +68,26 @@ module _ (xs : List ℕ) (h : Numbers xs) where
     window = window-fits;
   }
 
-  pub read_fits : {s : State} → state_in xs ≡ State-in.Fit s → StateFits s
+  pub read_fits : {s : State} → state_in xs ≡ Some s → StateFits s
   unfolding state_in
   read_fits {s} e = subst StateFits (taken (is_state xs) (state_at xs) s e) (record { latch = omega arith; fields = fields_fit })
 
-tops_fit : (t : Bool) (xs : List ℕ) {σ : Settings} → (when t then Settings-in.Fit (settings_at xs) else Settings-in.Unfit) ≡ Settings-in.Fit σ → TopsFit σ
+tops_fit : (t : Bool) (xs : List ℕ) {σ : Settings} → (when t then Some (settings_at xs) else None) ≡ Some σ → TopsFit σ
 unfolding settings_at
 tops_fit true xs {σ} e =
     let same : settings_at xs ≡ σ = cc in
     subst TopsFit same (record { top = omega arith; tow = omega arith })
 tops_fit false xs e = let q : ◌≡◌ {A = ℕ} 0 1 = cc in absurd (omega arith)
 
-pub settings-fit : (xs : List ℕ) {σ : Settings} → settings_in xs ≡ Settings-in.Fit σ → TopsFit σ
+pub settings-fit : (xs : List ℕ) {σ : Settings} → settings_in xs ≡ Some σ → TopsFit σ
 unfolding settings_in
 settings-fit xs e = tops_fit (eqb (length xs) 18) xs e
 
 -- ---- and back ----
 
-hand-held : (w : WindowInHand) → HandFits w → InHandHeld w
-hand-held Absent h = tt
-hand-held (Present w) h = h.held
+hand-held : (w : Option Window) → HandFits w → InHandHeld w
+hand-held None h = tt
+hand-held (Some w) h = h.held
 
 held : (s : State) → StateFits s → Held s
 held s h = record {
@@ -145,27 +141,27 @@ module _ (m : List ℕ) (b : Words m) where
         (λ _. called-back buffer)
 
   -- the fields that an effect comes with
-  abbrev pub NextFits : NextFields → Type 0
-  NextFits (Reached f) = FieldsFit f
-  NextFits Unreached = Unit
+  abbrev pub NextFits : Option Fields → Type 0
+  NextFits (Some f) = FieldsFit f
+  NextFits None = Unit
 
   module _ (σ : Settings) (f : Fields) (h : FieldsFit f) where
     pub from-latch : (ignore : Bool) → StateFits (state_of (latch_with ignore) f)
     from-latch false = record { latch = omega arith; fields = h }
     from-latch true = record { latch = omega arith; fields = h }
 
-    reached-fits : (ignore : Bool) (o : Outcome Row) → outcome_for σ m f ignore ≡ o → (x : NextFields) → NextFits x → NextFits (next_of o x)
+    reached-fits : (ignore : Bool) (o : Outcome Row) → outcome_for σ m f ignore ≡ o → (x : Option Fields) → NextFits x → NextFits (next_of o x)
     unfolding outcome_for
     reached-fits ignore (given n r) e x k = (row_fits σ (state_of (latch_with ignore) f) (from-latch ignore) e).next
     reached-fits ignore (refused y) e x k = k
 
     pub fields-reached : NextFits (effect_call σ m f).next
     unfolding effect_call
-    fields-reached = reached-fits false (outcome_for σ m f false) refl _ (reached-fits true (outcome_for σ m f true) refl Unreached tt)
+    fields-reached = reached-fits false (outcome_for σ m f false) refl _ (reached-fits true (outcome_for σ m f true) refl None tt)
 
     pub fields_back : FieldsBack (effect_call σ m f).next
     fields_back = by (effect_call σ m f).next fields-reached
       where
-        by : (x : NextFields) → NextFits x → FieldsBack x
-        by (Reached g) k = λ latch l. state-back (state_of latch g) (record { latch = l; fields = k })
-        by Unreached k = tt
+        by : (x : Option Fields) → NextFits x → FieldsBack x
+        by (Some g) k = λ latch l. state-back (state_of latch g) (record { latch = l; fields = k })
+        by None k = tt

@@ -1,30 +1,24 @@
 -- A state, an effect or a scroll that a call wrote is read back as it was.
-use Rattle.std.specs.Prelude.{ℕ, ◌≤◌, ◌<◌, ◌≡◌, List, [], ◌∷◌, get_or}
+use Rattle.std.specs.Prelude.{ℕ, ◌≤◌, ◌<◌, ◌≡◌, List, [], ◌∷◌, get_or, Option, Some, None, Result, Ok, Err}
+use Rattle.memory.specs.declared.Refusal.{Refusal}
 use Rattle.settings.specs.declared.PointerWords.{PointerWords}
 use Rattle.settings.specs.declared.Settings.{Settings}
 use Rattle.state.specs.declared.State.{State}
 use Rattle.state.specs.State.{state_of}
-use Rattle.start.specs.declared.StartAnswer.{StartAnswer}
-use Rattle.start.specs.declared.StartAnswer.TheVariants as Start
-use Rattle.row.specs.declared.RowAnswer.{RowAnswer}
-use Rattle.row.specs.declared.RowAnswer.TheVariants as Row
+use Rattle.state.specs.declared.Fields.{Fields}
 use Rattle.listed.specs.Listed.{start_listed, row_listed}
 use Rattle.scroll.specs.declared.Scroll.{Scroll}
-use Rattle.scroll.specs.declared.ShiftAnswer.{ShiftAnswer}
-use Rattle.scroll.specs.declared.ShiftAnswer.TheVariants as Shift
 use Rattle.scroll.specs.Scroll.{shift_call}
 use Rattle.shifts.specs.AfterShift.{scroll_numbers, scroll_of, after_shift}
 use Rattle.joining.specs.declared.Effect.{Effect}
 use Rattle.joining.specs.Join.{empty, join}
-use Rattle.effect.specs.declared.NextFields.{NextFields}
-use Rattle.effect.specs.declared.NextFields.TheVariants.{Reached, Unreached}
+use Rattle.start.specs.declared.Started.{Started}
 use Rattle.effect.specs.Effect.{effect_call}
-use Rattle.numbers.specs.declared.decode.SettingsIn.TheVariants as Settings-in
-use Rattle.numbers.specs.declared.decode.StateIn.TheVariants as State-in
 use Rattle.numbers.specs.Places.{any}
 use Rattle.numbers.specs.Decode.{settings_in, state_in}
 use Rattle.numbers.specs.Encode.{state_numbers}
-use Rattle.effects.specs.declared.decode.EffectIn.TheVariants as Effect-in
+use Rattle.scroll.specs.declared.FrameShift.{FrameShift}
+use Rattle.row.specs.declared.DrawnRow.{DrawnRow}
 use Rattle.effects.specs.EffectNumbers.{effect_in, effect_numbers}
 
 -- what the types of lent slices say: 16-bit words, 32-bit numbers
@@ -35,45 +29,45 @@ abbrev pub Numbers : List ℕ → Type 0
 Numbers xs = (i : ℕ) → get_or xs i 0 ≤ any
 
 abbrev pub StateBack : State → Type 0
-StateBack s = state_in (state_numbers s) ≡ State-in.Fit s
+StateBack s = state_in (state_numbers s) ≡ Some s
 
 abbrev pub EffectBack : Effect → Type 0
-EffectBack e = effect_in (effect_numbers e) ≡ Effect-in.Fit e
+EffectBack e = effect_in (effect_numbers e) ≡ Some e
 
 -- the state of an accepted start, and of an accepted row
-abbrev pub StartBack : StartAnswer → Type 0
-StartBack (Start.Accepted s) = StateBack s.state
-StartBack (Start.Refused r) = Unit {0}
+abbrev pub StartBack : Result Started Refusal → Type 0
+StartBack (Ok s) = StateBack s.state
+StartBack (Err r) = Unit {0}
 
-abbrev pub RowBack : RowAnswer → Type 0
-RowBack (Row.Accepted d) = StateBack d.next
-RowBack (Row.Refused r) = Unit {0}
+abbrev pub RowBack : Result DrawnRow Refusal → Type 0
+RowBack (Ok d) = StateBack d.next
+RowBack (Err r) = Unit {0}
 
 -- the fields that an effect comes with, with any latch
-abbrev pub FieldsBack : NextFields → Type 0
-FieldsBack (Reached f) = (latch : ℕ) → latch < 65536 → StateBack (state_of latch f)
-FieldsBack Unreached = Unit {0}
+abbrev pub FieldsBack : Option Fields → Type 0
+FieldsBack (Some f) = (latch : ℕ) → latch < 65536 → StateBack (state_of latch f)
+FieldsBack None = Unit {0}
 
 -- the scroll of an accepted shift call
-abbrev pub ShiftBack : ShiftAnswer → Type 0
-ShiftBack (Shift.Accepted s) = scroll_of (scroll_numbers s.scroll) ≡ s.scroll
-ShiftBack (Shift.Refused r) = Unit {0}
+abbrev pub ShiftBack : Result FrameShift Refusal → Type 0
+ShiftBack (Ok s) = scroll_of (scroll_numbers s.scroll) ≡ s.scroll
+ShiftBack (Err r) = Unit {0}
 
 -- on the settings and on a state that slices of numbers have, and a memory
 module _ (m : List ℕ) where
   -- effects of rows of such states, and these joined
   pub data Made : Effect → Type 0 where
     none : Made empty
-    made : (settings state : List ℕ) {σ : Settings} {s : State} → Numbers state → settings_in settings ≡ Settings-in.Fit σ
-        → state_in state ≡ State-in.Fit s → Made (effect_call σ m s.fields).effect
+    made : (settings state : List ℕ) {σ : Settings} {s : State} → Numbers state → settings_in settings ≡ Some σ
+        → state_in state ≡ Some s → Made (effect_call σ m s.fields).effect
     joined : {d e : Effect} → Made d → Made e → Made (join d e)
 
   pub record ReadBack : Type 0 where
-    pub start : (latch : ℕ) (settings list : List ℕ) {σ : Settings} → latch < 65536 → settings_in settings ≡ Settings-in.Fit σ
+    pub start : (latch : ℕ) (settings list : List ℕ) {σ : Settings} → latch < 65536 → settings_in settings ≡ Some σ
         → StartBack (start_listed latch σ m list).answer
-    pub row : (state buffer list : List ℕ) (σ : Settings) {s : State} → Numbers state → state_in state ≡ State-in.Fit s
+    pub row : (state buffer list : List ℕ) (σ : Settings) {s : State} → Numbers state → state_in state ≡ Some s
         → RowBack (row_listed σ m s buffer list).answer
-    pub fields : (state : List ℕ) (σ : Settings) {s : State} → Numbers state → state_in state ≡ State-in.Fit s
+    pub fields : (state : List ℕ) (σ : Settings) {s : State} → Numbers state → state_in state ≡ Some s
         → FieldsBack (effect_call σ m s.fields).next
     pub effect : {e : Effect} → Made e → EffectBack e
     pub shift : (σ : Settings) (soft : PointerWords) (last : Scroll) → ShiftBack (shift_call σ m soft last)
@@ -88,21 +82,21 @@ pub record Shifting : Type 0 where
   pub soft : PointerWords
 
 -- each from the last ones: a refused call changes nothing
-abbrev pub scroll_after : Scroll → ShiftAnswer → Scroll
-scroll_after last (Shift.Accepted s) = s.scroll
-scroll_after last (Shift.Refused r) = last
+abbrev pub scroll_after : Scroll → Result FrameShift Refusal → Scroll
+scroll_after last (Ok s) = s.scroll
+scroll_after last (Err r) = last
 
-unfoldable pub in_row : List Shifting → Scroll → List ShiftAnswer
+unfoldable pub in_row : List Shifting → Scroll → List (Result FrameShift Refusal)
 in_row [] last = []
 in_row (c ∷ cs) last =
-    let a : ShiftAnswer = shift_call c.settings c.memory c.soft last in
+    let a : (Result FrameShift Refusal) = shift_call c.settings c.memory c.soft last in
     a ∷ in_row cs (scroll_after last a)
 
 -- .. and each from the three numbers that the one before left, as `thagaduvin_shift` reads and leaves them
-unfoldable pub in_row_by_numbers : List Shifting → List ℕ → List ShiftAnswer
+unfoldable pub in_row_by_numbers : List Shifting → List ℕ → List (Result FrameShift Refusal)
 in_row_by_numbers [] ns = []
 in_row_by_numbers (c ∷ cs) ns =
-    let a : ShiftAnswer = shift_call c.settings c.memory c.soft (scroll_of ns) in
+    let a : (Result FrameShift Refusal) = shift_call c.settings c.memory c.soft (scroll_of ns) in
     a ∷ in_row_by_numbers cs (after_shift ns [] a).state
 
 abbrev pub SameInRow : Type 0

@@ -57,9 +57,7 @@ const LINES: [[u16; 8]; 33] = [
 
 pub(crate) fn words() -> [u16; 336] {
     let mut mem = [0u16; 336];
-    for i in 0..264 {
-        mem[i] = LINES[i / 8][i % 8];
-    }
+    mem[..264].copy_from_slice(LINES.as_flattened());
     mem
 }
 

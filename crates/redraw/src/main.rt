@@ -4,24 +4,28 @@
 ghost use Rattle.std.specs.Prelude.{◌≡◌};
 ghost use Rattle.joining.specs.Join.{empty};
 
-use crate::same::Outcome;
-use effect::NextFields;
-use joining::{Applied, Effect};
-use row::RowAnswer;
+use joining::Effect;
+use memory::Refusal;
+use row::DrawnRow;
 use settings::Settings;
-use start::StartAnswer;
 use state::{Fields, State};
 use std::io;
 
 mod frames; // the frames in memory
 mod report; // what is written
-mod same; // whether two outcomes of a row are the same
+
+// An accepted row: its answer and its cells.
+#[derive(Clone, Copy, PartialEq, Eq)]
+struct Drawn {
+    row: DrawnRow,
+    cells: [u32; 132],
+}
 
 // A call of a frame drawn in turn: its outcome; and what its row is drawn from alone, the fields reached and the effects of the
 // rows above, joined.
 #[derive(Clone, Copy)]
 struct Turn {
-    outcome: Outcome,
+    outcome: Result<Drawn, Refusal>,
     fields: Fields,
     above: Effect,
 }
@@ -48,11 +52,11 @@ fn redraw_frame(
     report::frame(rt, n)?;
     let settings = frames::settings(n);
     match start::start(settings, mem, frames::latch(n)) {
-        StartAnswer::Refused(r) => {
+        Err(r) => {
             report::refused(rt, r)?;
             Ok(count)
         }
-        StartAnswer::Accepted(s) => {
+        Ok(s) => {
             let first = s.state;
             let turns = draw_in_turn(settings, mem, first);
             redraw_rows(rt, settings, mem, first.latch, turns, count)
@@ -65,27 +69,21 @@ fn draw_in_turn(settings: Settings, mem: &[u16], first: State) -> [Turn; 8] {
     let mut state = first;
     let mut fields = first.fields;
     let mut above = none_above();
-    let mut turns = [Turn {
-        outcome: same::blank(),
-        fields,
-        above,
-    }; 8];
-    for i in 0..8 {
+    std::array::from_fn(|_| {
         let outcome = draw_row(settings, mem, state, [0; 132]);
-        turns[i] = Turn {
+        let turn = Turn {
             outcome,
             fields,
             above,
         };
-        let answer = outcome.answer;
-        state = state_after(state, answer);
+        if let Ok(drawn) = outcome {
+            state = drawn.row.next;
+        }
         let e = effect::row_effect(settings, mem, fields);
-        let more = e.effect;
-        let next = e.next;
-        above = above.join(more);
-        fields = fields_after(fields, next);
-    }
-    turns
+        above = above.join(e.effect);
+        fields = e.next.unwrap_or(fields);
+        turn
+    })
 }
 
 // The effects of no rows, joined.
@@ -109,20 +107,22 @@ fn redraw_rows(
     for _ in 0..8u32 {
         call = (call * 5 + 3) % 8;
         let t = turns[call];
-        let fields = t.fields;
-        let above = t.above;
-        let alone = draw_alone(settings, mem, latch, fields, above);
-        let outcome = t.outcome;
-        count = report::row(rt, call, same::outcomes(alone, outcome), alone, count)?;
+        let alone = draw_alone(settings, mem, latch, t.fields, t.above);
+        count = report::row(rt, call, alone == t.outcome, alone, count)?;
     }
     Ok(count)
 }
 
 // A row into a buffer.
-fn draw_row(settings: Settings, mem: &[u16], state: State, buffer: [u32; 132]) -> Outcome {
+fn draw_row(
+    settings: Settings,
+    mem: &[u16],
+    state: State,
+    buffer: [u32; 132],
+) -> Result<Drawn, Refusal> {
     let mut cells = buffer;
-    let answer = row::row(settings, mem, state, &mut cells);
-    Outcome { answer, cells }
+    let row = row::row(settings, mem, state, &mut cells)?;
+    Ok(Drawn { row, cells })
 }
 
 // A row alone: from the first latch, the fields reached and the effects of the rows above.
@@ -132,23 +132,7 @@ fn draw_alone(
     latch: u16,
     fields: Fields,
     above: Effect,
-) -> Outcome {
-    match above.apply(latch) {
-        Applied::Latch(l) => draw_row(settings, mem, State { latch: l, fields }, [0xFFFFFF; 132]),
-        Applied::Refused(r) => same::refused(r),
-    }
-}
-
-fn state_after(state: State, answer: RowAnswer) -> State {
-    match answer {
-        RowAnswer::Accepted(r) => r.next,
-        RowAnswer::Refused(_) => state,
-    }
-}
-
-fn fields_after(fields: Fields, next: NextFields) -> Fields {
-    match next {
-        NextFields::Reached(f) => f,
-        NextFields::Unreached => fields,
-    }
+) -> Result<Drawn, Refusal> {
+    let latch = above.apply(latch)?;
+    draw_row(settings, mem, State { latch, fields }, [0xFFFFFF; 132])
 }

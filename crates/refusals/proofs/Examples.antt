@@ -1,4 +1,5 @@
 -- Each number of each call's list is answered: a computed example for one after the other.
+use Rattle.std.proofs.Common.{Option, Some, None}
 use Prim.Native.Nat.{ℕ}
 use mathlib.Core.Path.{◌≡◌, refl}
 use mathlib.Core.Bool.{Bool, true, false}
@@ -12,8 +13,6 @@ use Rattle.settings.specs.declared.Interlace.TheVariants.{Progressive}
 use Rattle.settings.specs.declared.Settings.{Settings}
 use Rattle.settings.specs.Good.{good, check_settings}
 use Rattle.settings.specs.Sheet.{sheet_call}
-use Rattle.windows.specs.declared.WindowInHand.{WindowInHand}
-use Rattle.windows.specs.declared.WindowInHand.TheVariants.{Absent, Present}
 use Rattle.blocks.specs.Main.{main_block, main_block_at}
 use Rattle.blocks.specs.RowBlock.{segment_of, segments_at, segment_roles, rest_of_block, block_at, row_block_at, window_row_at, redefined}
 use Rattle.windows.specs.Window as W
@@ -24,6 +23,7 @@ use Rattle.layout.specs.Overlay.{window_row, overlaid}
 use Rattle.background.specs.Background.{background_block, background_row}
 use Rattle.plan.specs.Plan.{next_fields, plan}
 use Rattle.codes.specs.Codes.{codes}
+use Rattle.windows.specs.declared.Window.{Window}
 use Rattle.cells.specs.Cells.{fill_by_word, fill_to, segment, segments_to, row_cells}
 use Rattle.row.specs.Row.{row, row_call}
 use Rattle.start.specs.Top.{top_block}
@@ -68,7 +68,7 @@ unfoldable pub bad : Settings
 bad = mode false 2 0 0
 
 -- row 1 of a state with these lines left, its block at 2, the fill flag set
-unfoldable pub fields : ℕ → WindowInHand → Fields
+unfoldable pub fields : ℕ → Option Window → Fields
 fields left w = record {
   row = 1;
   left = left;
@@ -80,9 +80,9 @@ fields left w = record {
 }
 
 -- a window on the rows top to bottom, columns 1 and 2, with its row block and the next window block at these addresses
-unfoldable pub window : ℕ → ℕ → ℕ → ℕ → WindowInHand
+unfoldable pub window : ℕ → ℕ → ℕ → ℕ → Option Window
 window top bottom rows link =
-    Present (record { block = record { number = 0; top = top; bottom = bottom; left = 1; right = 2; link = to 0 link }; rows = to 0 rows })
+    Some (record { block = record { number = 0; top = top; bottom = bottom; left = 1; right = 2; link = to 0 link }; rows = to 0 rows })
 
 -- a memory with a row block of one segment at 2: its code pointer, its attribute pointer, L and V in one word
 unfoldable pub block : ℕ → ℕ → ℕ → List ℕ
@@ -99,22 +99,22 @@ call σ m f = record { settings = σ; memory = m; fields = f }
 
 -- 2: VAL 0. 17: segmented
 unfoldable pub unset : List Call
-unset = call bad [] (fields 1 Absent) ∷ call segmented [] (fields 1 Absent) ∷ []
+unset = call bad [] (fields 1 None) ∷ call segmented [] (fields 1 None) ∷ []
 
 unfoldable pub undrawn : List Call
 undrawn =
     -- 7: no word. 8: the window of row 0 has passed, and the next one's first row, 1, is past its last, 0
-    call plain [] (fields 1 Absent) ∷ call plain (0 ∷ 0 ∷ 0 ∷ 0 ∷ 0 ∷ 0x100 ∷ 0 ∷ []) (fields 1 (window 0 0 0 2))
+    call plain [] (fields 1 None) ∷ call plain (0 ∷ 0 ∷ 0 ∷ 0 ∷ 0 ∷ 0x100 ∷ 0 ∷ []) (fields 1 (window 0 0 0 2))
     -- 9: V 1, L 0. 10: width 133
-    ∷ call plain (block 2 0 1) (fields 1 Absent) ∷ call plain (block 0 0 133) (fields 1 Absent)
+    ∷ call plain (block 2 0 1) (fields 1 None) ∷ call plain (block 0 0 133) (fields 1 None)
     -- 11: width 3 in a window of 2 columns. 12: its first column inside a segment of width 2
     ∷ call plain (block 0 0 3) (fields 1 (window 1 1 2 0)) ∷ call plain (block 0 0 2) (fields 1 (window 1 1 0 0))
     -- 13: the fill word is 0
-    ∷ call plain (block 0 2 1) (fields 1 Absent) ∷ []
+    ∷ call plain (block 0 2 1) (fields 1 None) ∷ []
 
 -- and between them 3: row 1 and 4095 lines. 4: no line
 pub calls : List Call
-calls = unset ++ call plain [] (fields 4095 Absent) ∷ call plain [] (fields 0 Absent) ∷ undrawn
+calls = unset ++ call plain [] (fields 4095 None) ∷ call plain [] (fields 0 None) ∷ undrawn
 
 -- the numbers that these calls answer: of rows with a buffer of 132 cells, of both parts of effects
 pub rows_of : List Call → List ℕ
@@ -156,7 +156,7 @@ unfolding mode settings segmented bad plain scroll good check_settings pointer n
 shifts = refl
 
 -- 131 cells, then the calls above
-pub rows : of_row (row_call plain [] (S.state_of 0 (fields 1 Absent)) (replicate 131 0)).answer ++ rows_of calls ≡ row_numbers
+pub rows : of_row (row_call plain [] (S.state_of 0 (fields 1 None)) (replicate 131 0)).answer ++ rows_of calls ≡ row_numbers
 unfolding mode settings segmented bad plain fields window block call unset undrawn calls rows_of good check_settings pointer next_word ahead words read_as ◌>>=◌ each run_from segment_of segments_at segment_roles rest_of_block block_at row_block_at window_row_at redefined W.window_of W.window_at W.due_window S.window_in_range S.in_range width total all_fit boundary edges_fit window_row overlaid next_fields background_block background_row plan codes fill_by_word fill_to segment segments_to row_cells row row_call
 rows = refl
 

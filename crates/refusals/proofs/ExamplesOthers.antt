@@ -1,4 +1,5 @@
 -- Each number of the row beside the cut, of mending and of the converter is answered but the converter's 3; and no list has 5.
+use Rattle.std.proofs.Common.{None}
 use Prim.Native.Nat.{ℕ}
 use mathlib.Core.Path.{◌≡◌, refl}
 use mathlib.Core.Bool.{false}
@@ -10,7 +11,6 @@ use Rattle.memory.specs.Address.{to, pointer, next_word, ahead, words}
 use Rattle.settings.specs.declared.Settings.{Settings}
 use Rattle.settings.specs.Good.{good, check_settings}
 use Rattle.settings.specs.Timing.{lines_for_rows}
-use Rattle.windows.specs.declared.WindowInHand.TheVariants.{Absent}
 use Rattle.blocks.specs.Main.{main_block, main_block_at}
 use Rattle.blocks.specs.RowBlock.{segment_of, segments_at, segment_roles, rest_of_block, block_at, row_block_at, window_row_at, redefined}
 use Rattle.windows.specs.Window as W
@@ -51,11 +51,11 @@ up (c ∷ cs) =
 
 -- .. with these cells and places
 pub up_with : List ℕ → List ℕ → List ℕ
-up_with cells list = of_beside (beside_listed plain [] (pos 1) plain.top 0 (S.state_of 0 (fields 1 Absent)) cells list).answer
+up_with cells list = of_beside (beside_listed plain [] (pos 1) plain.top 0 (S.state_of 0 (fields 1 None)) cells list).answer
 
 -- down, to a soft top in these settings' TOP
 pub down : Settings → List ℕ → List ℕ
-down σ m = of_beside (beside_listed plain m (negsuc 0) σ.top 0 (S.state_of 0 (fields 1 Absent)) (replicate 132 0) places).answer
+down σ m = of_beside (beside_listed plain m (negsuc 0) σ.top 0 (S.state_of 0 (fields 1 None)) (replicate 132 0) places).answer
 
 -- a next row block at an odd address
 pub odd : Fields
@@ -66,7 +66,7 @@ odd = record {
   fill = record { code = 0; flag = false };
   format = record { lines = 8; attributes = 0; curs = 0; cure = 31 };
   next = to 0 3;
-  window = Absent;
+  window = None;
 }
 
 -- 131 cells; no places; VAL 0 and segmented; a state out of range; a soft top that is null; M4 with enable and window; then a row's

@@ -1,4 +1,5 @@
 -- Each call answers with the numbers of its list and no other, whatever the settings, the memory, the state, the latch and the row buffer.
+use Rattle.std.proofs.Common.{Option, Some, None, Result}
 use mathlib.Core.Path.{◌≡◌, refl, sym, ◌∙◌}
 use mathlib.Core.Bool.{Bool, true, false, ◌&&◌, ◌||◌, not}
 use mathlib.Core.List.{List, [], ◌∷◌, ◌++◌}
@@ -11,17 +12,16 @@ use Rattle.memory.specs.declared.Pointer.{Pointer}
 use Rattle.memory.specs.Reading.{one_pointer, Outcome}
 use Rattle.memory.specs.Address.{null}
 use Rattle.memory.proofs.ReadBounds.{if-cases, both}
+use Rattle.memory.specs.declared.Refusal.{Refusal}
 use Rattle.settings.specs.declared.PointerWords.{PointerWords}
 use Rattle.settings.specs.declared.Settings.{Settings}
 use Rattle.settings.specs.Good.{good, check_settings}
-use Rattle.settings.specs.declared.SheetAnswer.{SheetAnswer}
 use Rattle.settings.specs.Sheet.{sheet_call}
+use Rattle.settings.specs.declared.Sheet.{Sheet}
 use Rattle.blocks.specs.declared.FillMode.{FillMode}
 use Rattle.blocks.specs.declared.MainBlock.{MainBlock}
 use Rattle.blocks.specs.declared.RowFormat.{RowFormat}
 use Rattle.blocks.specs.declared.Segment.{Segment}
-use Rattle.windows.specs.declared.WindowInHand.{WindowInHand}
-use Rattle.windows.specs.declared.WindowInHand.TheVariants.{Absent, Present}
 use Rattle.blocks.specs.Main.{main_block_at}
 use Rattle.blocks.specs.RowBlock.{segment_roles, rest_of_block, block_at, row_block_at, window_row_at, redefined}
 use Rattle.windows.specs.Window.{in_order, window_of, two_pointers, window_at, first_window, due_window}
@@ -34,6 +34,7 @@ use Rattle.background.specs.Background.{background_block, background_row}
 use Rattle.plan.specs.Plan.{Plan, from_blocks, from_state, plan}
 use Rattle.codes.specs.declared.CodeSettings.{CodeSettings}
 use Rattle.codes.specs.Codes.{Drawing}
+use Rattle.windows.specs.declared.Window.{Window}
 use Rattle.holding.proofs.CellsHold.{any, EachOver, Keeps, cells-hold}
 use Rattle.cells.specs.Cells.{row_cells}
 use Rattle.row.specs.Row.{Row, Called, from_plan, row, answered, row_call}
@@ -77,10 +78,10 @@ module _ {ns : List ℕ} where
       if-refuses (null p) dones (bind (as-refuses two_pointers (words-refuse linear 6 p)) λ b.
       check-of-then 8 p (in_order (window_of linear number p.address b).block && leb least (window_of linear number p.address b).block.top) h λ _ _. dones)
 
-  due-refuses : has 8 ns ≡ true → (linear : Bool) (row : ℕ) (w : WindowInHand) → Refuses ns (due_window linear row w)
+  due-refuses : has 8 ns ≡ true → (linear : Bool) (row : ℕ) (w : Option Window) → Refuses ns (due_window linear row w)
   unfolding due_window
-  due-refuses h linear row Absent = dones
-  due-refuses h linear row (Present w) = if-refuses (ltb w.block.bottom row) (window-refuses h linear _ _ _) dones
+  due-refuses h linear row None = dones
+  due-refuses h linear row (Some w) = if-refuses (ltb w.block.bottom row) (window-refuses h linear _ _ _) dones
 
   -- the main block of a top register
   pub top-refuses : has 6 ns ≡ true → has 14 ns ≡ true → (linear : Bool) (top : PointerWords) → Refuses ns (top_block linear top)
@@ -124,10 +125,10 @@ shift-refuses σ soft last =
 abbrev pub drawing_checks : List ℕ
 drawing_checks = 8 ∷ 9 ∷ 10 ∷ 11 ∷ 12 ∷ 13 ∷ []
 
-overlaid-refuses : (σ : Settings) (row : ℕ) (w : WindowInHand) → Refuses drawing_checks (overlaid σ row w)
+overlaid-refuses : (σ : Settings) (row : ℕ) (w : Option Window) → Refuses drawing_checks (overlaid σ row w)
 unfolding overlaid window_row window_row_at
-overlaid-refuses σ row Absent = dones
-overlaid-refuses σ row (Present w) =
+overlaid-refuses σ row None = dones
+overlaid-refuses σ row (Some w) =
     if-refuses (leb w.block.top row && leb row w.block.bottom)
     (bind (block-refuses σ.linear false w.rows) λ b.
     check-of-then 9 w.rows (all_fit b.segments) refl λ _ _.
@@ -201,7 +202,7 @@ one_told ns n h = rw h
 
 pub sheet-told : (σ : Settings) → within (of_sheet (sheet_call σ)) sheet_numbers ≡ true
 unfolding sheet_call
-sheet-told σ = if-cases (λ (a : SheetAnswer). within (of_sheet a) sheet_numbers ≡ true) (good σ) (λ _. refl) (λ _. refl)
+sheet-told σ = if-cases (λ (a : Result Sheet Refusal). within (of_sheet a) sheet_numbers ≡ true) (good σ) (λ _. refl) (λ _. refl)
 
 pub start-told : (latch : ℕ) (σ : Settings) (m : List ℕ) → within (of_start (start_call latch σ m)) start_numbers ≡ true
 unfolding start_call

@@ -1,4 +1,5 @@
 -- The same of the row beside the cut, of a mending step and of a conversion.
+use Rattle.std.proofs.Common.{Result, Ok, Err}
 use mathlib.Core.Path.{◌≡◌, refl, sym, subst, ◌∙◌}
 use mathlib.Core.Bool.{true, false}
 use mathlib.Core.List.{List, [], ◌∷◌}
@@ -26,9 +27,8 @@ use Rattle.state.specs.declared.Fields.{Fields}
 use Rattle.state.specs.declared.State.{State}
 use Rattle.state.specs.State.{state_of}
 use Rattle.start.specs.Start.{first_fields, window_start, start_from, started, start_call}
-use Rattle.row.specs.declared.RowAnswer.{RowAnswer}
-use Rattle.row.specs.declared.RowAnswer.TheVariants as Row
 use Rattle.row.specs.Row.{row_call}
+use Rattle.row.specs.declared.DrawnRow.{DrawnRow}
 use Rattle.beside.specs.Beside.{BesideCalled, told, with_one_line, with_top, after_start, row_above}
 use Rattle.listed.specs.Listed.{row_listed}
 use Rattle.listed_beside.specs.ListedBeside.{BesideListed, below_listed, above_listed, beside_listed}
@@ -83,9 +83,9 @@ module _ (m : List ℕ) where
       Comes.bind m (λ _. Unit {0}) (anything _) λ b _. Comes.bind m (λ _. Unit {0}) (anything _) λ w _. Comes.dones (good-lines σ g)
 
 -- a row's answer tells what the row's does
-as_row : (n : ℕ) (a : RowAnswer) → of_beside (told n a) ≡ of_row a
-as_row n (Row.Accepted d) = refl
-as_row n (Row.Refused r) = refl
+as_row : (n : ℕ) (a : Result DrawnRow Refusal) → of_beside (told n a) ≡ of_row a
+as_row n (Ok d) = refl
+as_row n (Err r) = refl
 
 module _ (σ : Settings) (m : List ℕ) where
   above-told : (latch : ℕ) (buffer : List ℕ) → within (of_beside (row_above σ m latch buffer).answer) beside_numbers ≡ true

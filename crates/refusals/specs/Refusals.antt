@@ -1,30 +1,18 @@
 -- Document 01, "What a refused call says", and 02: the numbers that each call can answer with. "5 withdrawn, its number unused".
-use Rattle.std.specs.Prelude.{ℕ, Bool, true, false, ◌&&◌, ◌||◌, List, [], ◌∷◌, ◌++◌, eqb}
-use Rattle.settings.specs.declared.SheetAnswer.{SheetAnswer}
-use Rattle.settings.specs.declared.SheetAnswer.TheVariants as Sheet
-use Rattle.start.specs.declared.StartAnswer.{StartAnswer}
-use Rattle.start.specs.declared.StartAnswer.TheVariants as Start
-use Rattle.row.specs.declared.RowAnswer.{RowAnswer}
-use Rattle.row.specs.declared.RowAnswer.TheVariants as Row
-use Rattle.scroll.specs.declared.ShiftAnswer.{ShiftAnswer}
-use Rattle.scroll.specs.declared.ShiftAnswer.TheVariants as Shift
-use Rattle.writer.specs.declared.WriteAnswer.{WriteAnswer}
-use Rattle.writer.specs.declared.WriteAnswer.TheVariants as Write
-use Rattle.bus.specs.declared.BusAnswer.{BusAnswer}
-use Rattle.bus.specs.declared.BusAnswer.TheVariants as Bus
-use Rattle.mail.specs.declared.Written.{Written}
-use Rattle.mail.specs.declared.Written.TheVariants as Text
-use Rattle.mail_reader.specs.declared.ReadAnswer.{ReadAnswer}
-use Rattle.mail_reader.specs.declared.ReadAnswer.TheVariants as Read
+use Rattle.std.specs.Prelude.{ℕ, Bool, true, false, ◌&&◌, ◌||◌, List, [], ◌∷◌, ◌++◌, eqb, Result, Ok, Err, Option, Some, None}
+use Rattle.memory.specs.declared.Refusal.{Refusal}
+use Rattle.settings.specs.declared.Sheet.{Sheet}
+use Rattle.bus.specs.declared.Figures.{Figures}
 use Rattle.joining.specs.declared.Part.{Part}
 use Rattle.joining.specs.declared.Part.TheVariants.{Keep, Set, Refuse}
+use Rattle.start.specs.declared.Started.{Started}
+use Rattle.scroll.specs.declared.FrameShift.{FrameShift}
+use Rattle.row.specs.declared.DrawnRow.{DrawnRow}
 use Rattle.effect.specs.declared.EffectAnswer.{EffectAnswer}
-use Rattle.beside.specs.declared.BesideAnswer.{BesideAnswer}
-use Rattle.beside.specs.declared.BesideAnswer.TheVariants as Beside
+use Rattle.beside.specs.declared.BesideRow.{BesideRow}
 use Rattle.mending.specs.declared.MendAnswer.{MendAnswer}
 use Rattle.mending.specs.declared.MendAnswer.TheVariants as Mend
-use Rattle.converter.specs.declared.ConvertAnswer.{ConvertAnswer}
-use Rattle.converter.specs.declared.ConvertAnswer.TheVariants as Convert
+use Rattle.converter.specs.declared.Conversion.{Conversion}
 
 -- "The settings sheet gives these, or refusal 2"
 abbrev pub sheet_numbers : List ℕ
@@ -90,37 +78,37 @@ abbrev pub read_mail_numbers : List ℕ
 read_mail_numbers = 24 ∷ 23 ∷ []
 
 -- the number that an answer has, where it is a refusal; an effect's parts have one each
-abbrev pub of_sheet : SheetAnswer → List ℕ
-of_sheet (Sheet.Given s) = []
-of_sheet (Sheet.Refused r) = r.number ∷ []
+abbrev pub of_sheet : Result Sheet Refusal → List ℕ
+of_sheet (Ok s) = []
+of_sheet (Err r) = r.number ∷ []
 
-abbrev pub of_start : StartAnswer → List ℕ
-of_start (Start.Accepted s) = []
-of_start (Start.Refused r) = r.number ∷ []
+abbrev pub of_start : Result Started Refusal → List ℕ
+of_start (Ok s) = []
+of_start (Err r) = r.number ∷ []
 
-abbrev pub of_shift : ShiftAnswer → List ℕ
-of_shift (Shift.Accepted s) = []
-of_shift (Shift.Refused r) = r.number ∷ []
+abbrev pub of_shift : Result FrameShift Refusal → List ℕ
+of_shift (Ok s) = []
+of_shift (Err r) = r.number ∷ []
 
-abbrev pub of_row : RowAnswer → List ℕ
-of_row (Row.Accepted d) = []
-of_row (Row.Refused r) = r.number ∷ []
+abbrev pub of_row : Result DrawnRow Refusal → List ℕ
+of_row (Ok d) = []
+of_row (Err r) = r.number ∷ []
 
-abbrev pub of_write : WriteAnswer → List ℕ
-of_write Write.Written = []
-of_write (Write.Refused r) = r.number ∷ []
+abbrev pub of_write : Result (Unit {0}) Refusal → List ℕ
+of_write (Ok tt) = []
+of_write (Err r) = r.number ∷ []
 
-abbrev pub of_bus : BusAnswer → List ℕ
-of_bus (Bus.Counted f) = []
-of_bus (Bus.Refused r) = r.number ∷ []
+abbrev pub of_bus : Result Figures Refusal → List ℕ
+of_bus (Ok f) = []
+of_bus (Err r) = r.number ∷ []
 
-abbrev pub of_written : Written → List ℕ
-of_written (Text.Text n) = []
-of_written (Text.Refused r) = r.number ∷ []
+abbrev pub of_written : Result ℕ Refusal → List ℕ
+of_written (Ok n) = []
+of_written (Err r) = r.number ∷ []
 
-abbrev pub of_read : ReadAnswer → List ℕ
-of_read (Read.Read n) = []
-of_read (Read.Refused r) = r.number ∷ []
+abbrev pub of_read : Result ℕ Refusal → List ℕ
+of_read (Ok n) = []
+of_read (Err r) = r.number ∷ []
 
 abbrev pub of_part : Part → List ℕ
 of_part Keep = []
@@ -130,19 +118,19 @@ of_part (Refuse r) = r.number ∷ []
 abbrev pub of_effect : EffectAnswer → List ℕ
 of_effect e = of_part e.effect.clear ++ of_part e.effect.set
 
-abbrev pub of_beside : BesideAnswer → List ℕ
-of_beside Beside.Absent = []
-of_beside (Beside.Drawn d) = []
-of_beside (Beside.Refused r) = r.number ∷ []
+abbrev pub of_beside : Result (Option BesideRow) Refusal → List ℕ
+of_beside (Ok None) = []
+of_beside (Ok (Some d)) = []
+of_beside (Err r) = r.number ∷ []
 
 abbrev pub of_mend : MendAnswer → List ℕ
 of_mend Mend.Whole = []
 of_mend (Mend.Changed c σ) = []
 of_mend (Mend.Refused r) = r.number ∷ []
 
-abbrev pub of_convert : ConvertAnswer → List ℕ
-of_convert (Convert.Accepted c) = []
-of_convert (Convert.Refused r) = r.number ∷ []
+abbrev pub of_convert : Result Conversion Refusal → List ℕ
+of_convert (Ok c) = []
+of_convert (Err r) = r.number ∷ []
 
 -- whether a list has a number, and whether it has all of another's
 abbrev pub has : ℕ → List ℕ → Bool

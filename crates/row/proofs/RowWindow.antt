@@ -1,5 +1,6 @@
 -- "In cells of source 2 bits 31..24 hold the window's number along the chain, from 0; elsewhere 0." (02) Of a row's cells: one of
 -- source 2 has the number of the window in hand, on one of its rows; any other has 0.
+use Rattle.std.proofs.Common.{Option}
 use mathlib.Core.Path.{◌≡◌, ap, ◌∙◌}
 use mathlib.Core.Bool.{◌&&◌}
 use mathlib.Core.List.{List}
@@ -12,12 +13,12 @@ use Rattle.memory.proofs.Agree.{All, none, also}
 use Rattle.memory.proofs.ReadBounds.{if-cases}
 use Rattle.memory.proofs.Gives.{Gives, dones, bind, reads-give}
 use Rattle.settings.specs.declared.Settings.{Settings}
-use Rattle.windows.specs.declared.WindowInHand.{WindowInHand}
 use Rattle.state.specs.declared.Fields.{Fields}
 use Rattle.state.specs.declared.State.{State}
 use Rattle.layout.specs.Layout as Layout
 use Rattle.layout.proofs.OverlayBounds.{OnRow, Shows}
 use Rattle.plan.proofs.PlanBounds.{plan-reads}
+use Rattle.windows.specs.declared.Window.{Window as WindowInHand}
 use Rattle.codes.specs.Attribute.{Fill, Background, Window, source_number, window_number, source_of, window_number_of}
 use Rattle.codes.specs.Codes.{blank}
 use Rattle.codes.proofs.CellParts.{source-back, window-back}
@@ -25,10 +26,10 @@ use Rattle.codes.proofs.CodeCells.{Makes}
 use Rattle.cells.proofs.CellSources.{WindowMakes, row-cells}
 use Rattle.row.specs.Row.{code_settings, row, with_cursor}
 
-abbrev pub Named : ℕ → WindowInHand → ℕ → Type 0
+abbrev pub Named : ℕ → Option WindowInHand → ℕ → Type 0
 Named row w c = (source_of c ≡ 2 → OnRow row w (window_number_of c)) × ((source_of c ≡ 2 → ⊥) → window_number_of c ≡ 0)
 
-module _ (row : ℕ) (w : WindowInHand) where
+module _ (row : ℕ) (w : Option WindowInHand) where
   fill-named : Makes (Named row w) Fill
   unfolding source_number window_number
   fill-named a code h = (λ e. absurd (omega (arith, source-back Fill a code h)), λ _. window-back Fill a code h)
@@ -60,7 +61,7 @@ set_all f k i none = none
 set_all f k zero (also {x} h hs) = also (k x h) hs
 set_all f k (suc i) (also h hs) = also h (set_all f k i hs)
 
-pub cursor-named : (σ : Settings) (f : Fields) (row : ℕ) (w : WindowInHand) (cs : List ℕ) → All (Named row w) cs → All (Named row w) (with_cursor σ f cs)
+pub cursor-named : (σ : Settings) (f : Fields) (row : ℕ) (w : Option WindowInHand) (cs : List ℕ) → All (Named row w) cs → All (Named row w) (with_cursor σ f cs)
 unfolding with_cursor
 cursor-named σ f row w cs h =
     if-cases (All (Named row w)) (σ.cursor && eqb f.cursor.y f.row) (λ _. set_all (λ c. bit_or c (2 ^ 22)) (marked row w) f.cursor.x h) (λ _. h)

@@ -1,20 +1,20 @@
 -- A row, and the row call with its row buffer.
-use Rattle.std.specs.Prelude.{ℕ, ◌^◌, ◌<◌, ◌&&◌, List, length, get_or, set, eqb}
+use Rattle.std.specs.Prelude.{ℕ, ◌^◌, ◌<◌, ◌&&◌, List, length, get_or, set, eqb, Result, Ok, Err}
 use Rattle.std.specs.Int.Bits.{bit_or}
 use Rattle.memory.specs.Word.{when◌then◌else◌}
 use Rattle.memory.specs.Reading.{Reading, done, fault, ◌>>=◌, Outcome, given, refused, refusal, run}
+use Rattle.memory.specs.declared.Refusal.{Refusal}
 use Rattle.settings.specs.declared.Settings.{Settings}
 use Rattle.blocks.specs.declared.FillMode.{FillMode}
 use Rattle.blocks.specs.declared.RowFormat.{RowFormat}
 use Rattle.state.specs.declared.Fields.{Fields}
 use Rattle.state.specs.declared.State.{State}
-use Rattle.row.specs.declared.RowAnswer.{RowAnswer}
-use Rattle.row.specs.declared.RowAnswer.TheVariants.{Accepted, Refused}
 use Rattle.state.specs.State.{state_of}
 use Rattle.plan.specs.Plan.{Plan, plan}
 use Rattle.codes.specs.declared.CodeSettings.{CodeSettings}
 use Rattle.codes.specs.Codes.{Drawing, blank}
 use Rattle.cells.specs.Cells.{row_cells}
+use Rattle.row.specs.declared.DrawnRow.{DrawnRow}
 
 -- the settings that the cells of a row are drawn by
 abbrev pub code_settings : Settings → CodeSettings
@@ -51,16 +51,16 @@ with_cursor σ f cs =
 
 -- a call's answer, and what its row buffer then holds
 pub record Called : Type 0 where
-  pub answer : RowAnswer
+  pub answer : Result DrawnRow Refusal
   pub buffer : List ℕ
 
-abbrev pub called : RowAnswer → List ℕ → Called
+abbrev pub called : Result DrawnRow Refusal → List ℕ → Called
 called answer buffer = record { answer = answer; buffer = buffer }
 
 -- "A row's answer is its number, lines, row attributes, CURS, CURE, word count, cells and next state."
-abbrev pub answer_of : ℕ → ℕ → RowFormat → ℕ → State → RowAnswer
+abbrev pub answer_of : ℕ → ℕ → RowFormat → ℕ → State → Result DrawnRow Refusal
 answer_of number lines format words next =
-    Accepted (record { number = number; lines = lines; format = format; words = words; next = next })
+    Ok (record { number = number; lines = lines; format = format; words = words; next = next })
 
 abbrev pub accepted : Settings → Fields → ℕ → Row → Called
 accepted σ f words r =
@@ -70,16 +70,16 @@ accepted σ f words r =
 -- "State and buffer stay"
 abbrev pub answered : Settings → Fields → List ℕ → Outcome Row → Called
 answered σ f buffer (given n r) = accepted σ f n r
-answered σ f buffer (refused x) = called (Refused (refusal f.row x)) buffer
+answered σ f buffer (refused x) = called (Err (refusal f.row x)) buffer
 
 -- Refusal 1: "row buffer not 132 cells"
 unfoldable pub row_call : Settings → List ℕ → State → List ℕ → Called
 row_call σ m s buffer =
     when eqb (length buffer) 132
     then answered σ s.fields buffer (run m (row σ s))
-    else called (Refused (refusal s.fields.row (fault 1))) buffer
+    else called (Err (refusal s.fields.row (fault 1))) buffer
 
 -- "a row reads fewer than 12,000"
-abbrev pub FewWords : RowAnswer → Type 0
-FewWords (Accepted r) = r.words < 12000
-FewWords (Refused r) = 0 < 12000
+abbrev pub FewWords : Result DrawnRow Refusal → Type 0
+FewWords (Ok r) = r.words < 12000
+FewWords (Err r) = 0 < 12000

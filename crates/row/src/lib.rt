@@ -8,15 +8,14 @@ ghost use Rattle.plan.specs.Answers.{plan_of};
 ghost use Rattle.row.specs.Row.{code_settings, row, with_cursor, called, answer_of, answered, row_call, FewWords};
 
 use blocks::RowFormat;
-use cells::CellsDrawn;
 use codes::CodeSettings;
 use memory::Refusal;
-use plan::{PlanAnswer, PlanHead};
+use plan::PlanHead;
 use settings::Settings;
 use state::{Fields, State};
 
 // The answer of an accepted row, but for its cells, which the row buffer has.
-#[derive(Clone, Copy)]
+#[derive(Clone, Copy, PartialEq, Eq)]
 pub struct DrawnRow {
     pub number: u32,
     pub lines: u16,
@@ -25,28 +24,25 @@ pub struct DrawnRow {
     pub next: State,
 }
 
-// The answer of a row, or its refusal.
-#[derive(Clone, Copy)]
-pub enum RowAnswer {
-    Accepted(DrawnRow),
-    Refused(Refusal),
-}
-
 // The next row: its cells in `buffer` and its answer, or a refusal that leaves the buffer as it was.
-pub fn row(settings: Settings, mem: &[u16], state: State, buffer: &mut [u32]) -> RowAnswer
+pub fn row(
+    settings: Settings,
+    mem: &[u16],
+    state: State,
+    buffer: &mut [u32],
+) -> Result<DrawnRow, Refusal>
     ensures few_words { FewWords result }
     ensures buffer_after { called result buffer.new ≡ row_call settings mem.now state buffer.old }
 {
     let fields = state.fields;
     if buffer.len() != 132 {
-        return RowAnswer::Refused(memory::refusal_of(fields.row, memory::fault_of(1)));
+        return Err(memory::refusal_of(fields.row, memory::fault_of(1)));
     }
     let mut back = [0u16; 75];
     let mut window = [0u16; 75];
-    match plan::plan_row(mem, settings, fields, &mut back, &mut window) {
-        PlanAnswer::Refused(fault) => RowAnswer::Refused(memory::refusal_of(fields.row, fault)),
-        PlanAnswer::Planned(p) => draw_planned(settings, mem, state, p, &back, &window, buffer),
-    }
+    let plan = plan::plan_row(mem, settings, fields, &mut back, &mut window);
+    let p = memory::told_in(fields.row, plan)?;
+    draw_planned(settings, mem, state, p, &back, &window, buffer)
 }
 
 // The settings that the cells of a row are drawn by, `linear` written out: a plan was accepted.
@@ -70,7 +66,7 @@ pub fn draw_planned(
     back: &[u16; 75],
     window: &[u16; 75],
     buffer: &mut [u32],
-) -> RowAnswer
+) -> Result<DrawnRow, Refusal>
     requires { (length buffer.old ≡ 132) × (given p.words (plan_of settings.linear p back.now window.now) ≡ run mem.now (plan settings state.fields)) }
     ensures few_words { FewWords result }
     ensures buffer_after { called result buffer.new ≡ answered settings state.fields buffer.old (run mem.now (row settings state)) }
@@ -81,7 +77,7 @@ pub fn draw_planned(
     let count = p.count;
     let code = code_settings(settings);
     let mut kept = [0u32; 132];
-    copy_cells(buffer, &mut kept);
+    kept.copy_from_slice(buffer);
     match cells::draw_cells(
         mem,
         code,
@@ -94,29 +90,25 @@ pub fn draw_planned(
         p.words,
         buffer,
     ) {
-        CellsDrawn::Refused(fault) => {
-            copy_cells(&kept, buffer);
-            RowAnswer::Refused(memory::refusal_of(fields.row, fault))
+        Err(fault) => {
+            buffer.copy_from_slice(&kept);
+            Err(memory::refusal_of(fields.row, fault))
         }
-        CellsDrawn::Accepted {
-            latch,
-            latched: _,
-            words,
-        } => {
+        Ok(drawn) => {
             mark_cursor(settings, fields, buffer);
-            row_answer(fields.row, p, latch, words)
+            row_answer(fields.row, p, drawn.latch, drawn.words)
         }
     }
 }
 
 // The answer of an accepted row.
-pub fn row_answer(number: u32, p: PlanHead, latch: u16, read: u32) -> RowAnswer
+pub fn row_answer(number: u32, p: PlanHead, latch: u16, read: u32) -> Result<DrawnRow, Refusal>
     ensures { result ≡ answer_of number p.lines p.format read (state_of latch p.next) }
 {
     let format = p.format;
     let fields = p.next;
     let next = State { latch, fields };
-    RowAnswer::Accepted(DrawnRow {
+    Ok(DrawnRow {
         number,
         lines: p.lines,
         format,
@@ -141,16 +133,4 @@ fn is_cursor_row(enabled: bool, fields: Fields) -> bool
     ensures { result ≡ enabled && eqb fields.cursor.y fields.row }
 {
     enabled & (fields.cursor.y as u32 == fields.row)
-}
-
-// `from` copied into `into`.
-fn copy_cells(from: &[u32], into: &mut [u32])
-    requires { (length from.now ≡ 132) × (length into.old ≡ 132) }
-    ensures { into.new ≡ from.now }
-{
-    let mut i = 0;
-    while i < 132 {
-        into[i] = from[i];
-        i += 1;
-    }
 }

@@ -1,14 +1,15 @@
 -- Codes whose words stand one after the other in memory: they are all there, and their loops make what the definitions read.
+use Rattle.std.proofs.Common.{Some}
 use mathlib.Core.Path.{◌≡◌, refl, ap, ap₂, sym, ◌∙◌}
 use mathlib.Core.List.{List, [], ◌∷◌}
 use mathlib.Core.Bool.{Bool, true, false, ◌&&◌, ◌||◌, not, and-false}
 use Prim.Native.Nat.{ℕ, zero, suc, ◌+◌, ◌-◌, ◌*◌, ◌/◌, ◌%◌, ◌<◌, ◌≤◌}
 use native.Mathlib.Omega.{arith}
-use lib.ListN.{length, get_or, drop, set, length-set}
+use lib.ListN.{length, get_or, take, drop, set, length-set, length-take, length-drop}
+use Rattle.std.proofs.lemmas.List.{get_or-take, get_or-drop}
 use lib.Seq.{drop-cons}
 use lib.Dec.{ltb, leb-suc-zero}
 use borrow.Author.Tests.{ltb-true, ltb-false, lt-ltb, le-ltb}
-use Rattle.memory.specs.declared.Fetch.TheVariants.{Word}
 use Rattle.memory.specs.Word.{when◌then◌else◌, high, low}
 use Rattle.memory.specs.Reading.{◌>>=◌, each, fetch, given, run_from}
 use Rattle.memory.specs.declared.Pointer.{Pointer}
@@ -108,6 +109,17 @@ module _ (m : List ℕ) (p : ℕ) (h : p < length m) where
   unfolding codes_in
   codes-both k = ap (λ (ws : List ℕ). codes_in ws (suc (suc k))) (drop-cons m p 0 h)
 
+-- words of memory as a slice
+module _ (m : List ℕ) (at n : ℕ) where
+  abbrev pub stretch : List ℕ
+  stretch = take (at + n - at) (drop at m)
+
+  pub stretch-length : at + n ≤ length m → length stretch ≡ n
+  stretch-length h = omega (arith, length-take (at + n - at) (drop at m), length-drop at m)
+
+  pub stretch-word : (i : ℕ) → i < n → get_or stretch i 0 ≡ get_or m (at + i) 0
+  stretch-word i h = get_or-take _ _ i 0 (omega arith) ∙ get_or-drop at m i 0
+
 -- .. from word i on of those that count codes fill
 module _ (m : List ℕ) (at i count : ℕ) (h : at + i < length m) where
   pub codes-pair : 2 * i + 2 ≤ count
@@ -125,21 +137,21 @@ module _ (m : List ℕ) (at i count : ℕ) (h : at + i < length m) where
 module _ (m : List ℕ) (σ : CodeSettings) (source : Source) (end : ℕ) where
   -- the codes of words that are there
   codes-there : (n count p : ℕ) (q : Pointer) (d : Drawing) → p + (count + 1) / 2 ≤ length m
-      → ((j : ℕ) → j < (count + 1) / 2 → fetch m (ahead σ.linear j q.address) ≡ Word (get_or m (p + j) 0))
+      → ((j : ℕ) → j < (count + 1) / 2 → fetch m (ahead σ.linear j q.address) ≡ Some (get_or m (p + j) 0))
       → run_from n m (codes σ source end count q d) ≡ run_from (n + (count + 1) / 2) m (each (examine σ source end) (codes_in (drop p m) count) d)
   unfolding codes word_codes codes_in each ahead ◌>>=◌
   codes-there n zero p q d h f = ap (λ (i : ℕ). run_from i m (codes σ source end 0 q d)) (omega arith)
   codes-there n (suc zero) p q d h f =
-      let first : fetch m q.address ≡ Word (get_or m p 0) = f 0 (omega arith) ∙ ap (λ (i : ℕ). Word (get_or m i 0)) (omega arith) in
+      let first : fetch m q.address ≡ Some (get_or m p 0) = f 0 (omega arith) ∙ ap (λ (i : ℕ). Some (get_or m i 0)) (omega arith) in
       ask-word n m q _ _ first ∙ ap₂ (λ (i : ℕ) (cs : List ℕ). run_from i m (each (examine σ source end) cs d)) (omega arith) (sym (codes-last m p (omega arith)))
   codes-there n (suc (suc k)) p q d h f =
       let w = get_or m p 0 in
-      let first : fetch m q.address ≡ Word w = f 0 (omega arith) ∙ ap (λ (i : ℕ). Word (get_or m i 0)) (omega arith) in
+      let first : fetch m q.address ≡ Some w = f 0 (omega arith) ∙ ap (λ (i : ℕ). Some (get_or m i 0)) (omega arith) in
       let pair = high w ∷ low w ∷ [] in
       let rest = codes_in (drop (suc p) m) k in
       ask-word n m q _ _ first
       ∙ step_same (n + 1) ((k + 1) / 2) m (each (examine σ source end) pair d) (codes σ source end k (onward σ.linear q)) (each (examine σ source end) rest)
-      (λ i d₁. codes-there i k (suc p) (onward σ.linear q) d₁ (omega arith) (λ j g. f (suc j) (omega arith) ∙ ap (λ (i : ℕ). Word (get_or m i 0)) (omega arith)))
+      (λ i d₁. codes-there i k (suc p) (onward σ.linear q) d₁ (omega arith) (λ j g. f (suc j) (omega arith) ∙ ap (λ (i : ℕ). Some (get_or m i 0)) (omega arith)))
       ∙ sym (each_append (n + 1 + (k + 1) / 2) m (examine σ source end) pair rest d)
       ∙ ap₂ (λ (i : ℕ) (cs : List ℕ). run_from i m (each (examine σ source end) cs d)) (omega arith) (sym (codes-both m p (omega arith) k))
 
@@ -151,7 +163,7 @@ module _ (m : List ℕ) (σ : CodeSettings) (source : Source) (end : ℕ) where
       codes-there n count (q.address / 2) q d (run_ends (length m) q.address ((count + 1) / 2) σ.linear h) (λ j. run-fetch σ.linear m q.address ((count + 1) / 2) j h)
 
   -- one code, where the next word of its list is there
-  pub examine-there : (n w code : ℕ) (d : Drawing) → d.pen.list.present ≡ true → fetch m d.pen.list.next.address ≡ Word w
+  pub examine-there : (n w code : ℕ) (d : Drawing) → d.pen.list.present ≡ true → fetch m d.pen.list.next.address ≡ Some w
       → run_from n m (examine σ source end code d) ≡ given (n + (when invokes σ.flag code then 1 else 0)) (examined σ source end w code d)
   unfolding examined
   examine-there n w code d p e = cases (invokes σ.flag code) refl

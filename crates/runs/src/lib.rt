@@ -5,8 +5,8 @@ ghost use Rattle.memory.specs.Reading.{run_from};
 ghost use Rattle.codes.specs.Codes.{codes};
 ghost use Rattle.codes.specs.Answers.{so_far, drawn, Within};
 
-use codes::{CodeSettings, Drawn, Pen, Room, word_by_word};
-use memory::Pointer;
+use codes::{CodeSettings, Pen, Reached, Room, word_by_word};
+use memory::{Fault, Pointer};
 
 pub mod with_list; // the codes of a segment with a list
 pub mod without_list; // those of a segment without one
@@ -22,22 +22,22 @@ pub fn draw_codes(
     pen: Pen,
     words: u32,
     cells: &mut [u32],
-) -> Drawn
+) -> Result<Reached, Fault>
     requires { (room.end ≤ length cells.old) × (pen.column ≤ room.end) × (count ≤ 255) × (words ≤ 4000000000) }
     ensures within { Within room.end (words + 2 * count) result }
     ensures cells_after { drawn result cells.new ≡ run_from words mem.now (codes settings room.source room.end count p (so_far pen cells.old)) }
 {
     if count == 0 {
-        return Drawn::Accepted { pen, words };
+        return Ok(Reached { pen, words });
     }
     if memory::is_run(mem, settings.linear, p.address, (count as usize + 1) / 2) {
         if !pen.list.present {
-            return without_list::draw_without_list(
+            return Ok(without_list::draw_without_list(
                 mem, settings, room, count, p, pen, words, cells,
-            );
+            ));
         }
         if memory::is_run(mem, settings.linear, pen.list.next.address, count as usize) {
-            return with_list::draw_with_list(mem, settings, room, count, p, pen, words, cells);
+            return Ok(with_list::draw_with_list(mem, settings, room, count, p, pen, words, cells));
         }
     }
     word_by_word::draw_word_by_word(mem, settings, room, count, p, pen, words, cells)

@@ -7,10 +7,10 @@ ghost use Rattle.codes.specs.declared.Source.{Source};
 ghost use Rattle.codes.specs.declared.Pen.{Pen};
 ghost use Rattle.codes.specs.Attribute.{invokes};
 ghost use Rattle.codes.specs.Codes.{moved_to, character, examine, codes};
-ghost use Rattle.codes.specs.Answers.{so_far, drawn, Within};
+ghost use Rattle.codes.specs.Answers.{so_far};
 ghost use Rattle.runs.specs.Runs.{codes_in, examined, in_force, cursor_of, with_word, pen_of};
 
-use codes::{AttributeList, CodeSettings, Drawn, Pen, Room, attribute};
+use codes::{AttributeList, CodeSettings, Pen, Reached, Room, attribute};
 use memory::Pointer;
 
 // What an attribute makes of a character: its cell's bits but the code's, and the column that it stands before.
@@ -40,11 +40,11 @@ pub(crate) fn draw_with_list(
     pen: Pen,
     words: u32,
     cells: &mut [u32],
-) -> Drawn
+) -> Reached
     requires end_in_bounds { (room.end ≤ length cells.old) × (pen.column ≤ room.end) × (count ≤ 255) × (words ≤ 4000000000) }
     requires present_value { (pen.list.present ≡ true) × (is_run settings.linear (length mem.now) p.address ((count + 1) / 2) ≡ true) × (is_run settings.linear (length mem.now) pen.list.next.address count ≡ true) }
-    ensures within { Within room.end (words + 2 * count) result }
-    ensures cells_after { drawn result cells.new ≡ run_from words mem.now (codes settings room.source room.end count p (so_far pen cells.old)) }
+    ensures within { (result.pen.column ≤ room.end) × (result.words ≤ words + 2 * count) }
+    ensures cells_after { given result.words (so_far result.pen cells.new) ≡ run_from words mem.now (codes settings room.source room.end count p (so_far pen cells.old)) }
 {
     let first = p.address;
     let at = (first / 2) as usize;
@@ -52,7 +52,7 @@ pub(crate) fn draw_with_list(
     let begun = cursor_of(settings.hidden, room, pen);
     let pairs = examine_pairs(mem, settings, room, count, at, list, begun, cells);
     let cursor = examine_odd(mem, settings, room, count, at, list, pairs, cells);
-    Drawn::Accepted {
+    Reached {
         pen: pen_of(settings.linear, list, cursor),
         words: words + (count + 1) / 2 + cursor.taken as u32,
     }
@@ -76,14 +76,11 @@ fn examine_pairs(
 {
     let pairs = (count / 2) as usize;
     let mut cursor = begun;
-    let mut i = 0;
-    while i < pairs {
-        let w = mem[at + i];
-        let first = memory::high_byte(w);
+    for w in &mem[at..at + pairs] {
+        let first = memory::high_byte(*w);
         cursor = examine_listed(mem, settings, room, first, list, cursor, cells);
-        let second = memory::low_byte(w);
+        let second = memory::low_byte(*w);
         cursor = examine_listed(mem, settings, room, second, list, cursor, cells);
-        i += 1;
     }
     cursor
 }
@@ -137,13 +134,7 @@ pub fn examine_listed(
     } else {
         let attribute = cursor.attribute;
         let column = put_code(attribute, code, cursor.column, cells);
-        Cursor {
-            column,
-            latch: cursor.latch,
-            latched: cursor.latched,
-            taken: cursor.taken,
-            attribute,
-        }
+        Cursor { column, ..cursor }
     }
 }
 
@@ -152,22 +143,20 @@ fn with_word(w: u16, own: InForce, column: usize, cursor: Cursor) -> Cursor
     requires { cursor.taken ≤ 4000000000 }
     ensures { result ≡ with_word w own column cursor }
 {
+    let taken = cursor.taken + 1;
     if memory::bit_15(w) {
         Cursor {
             column,
             latch: w,
             latched: true,
-            taken: cursor.taken + 1,
+            taken,
             attribute: own,
         }
     } else {
-        let attribute = cursor.attribute;
         Cursor {
             column,
-            latch: cursor.latch,
-            latched: cursor.latched,
-            taken: cursor.taken + 1,
-            attribute,
+            taken,
+            ..cursor
         }
     }
 }

@@ -1,13 +1,13 @@
 // The codes of a segment without a list: all have the latch.
-ghost use Rattle.std.specs.Prelude.{◌≡◌, Bool, true, false, ◌||◌, not, ℕ, ◌+◌, ◌-◌, ◌*◌, ◌/◌, ◌≤◌, min, length, drop};
-ghost use Rattle.memory.specs.Reading.{run_from};
+ghost use Rattle.std.specs.Prelude.{◌≡◌, Bool, true, false, ◌||◌, not, ℕ, ◌+◌, ◌-◌, ◌*◌, ◌/◌, ◌≤◌, length, drop};
+ghost use Rattle.memory.specs.Reading.{given, run_from};
 ghost use Rattle.memory.specs.Answers.{is_run};
 ghost use Rattle.codes.specs.Attribute.{ignores};
 ghost use Rattle.codes.specs.Codes.{moved_to, codes};
-ghost use Rattle.codes.specs.Answers.{so_far, drawn, Within};
+ghost use Rattle.codes.specs.Answers.{so_far};
 ghost use Rattle.runs.specs.Runs.{codes_in, characters};
 
-use codes::{CodeSettings, Drawn, Pen, Room, Source, attribute, pens};
+use codes::{CodeSettings, Pen, Reached, Room, Source, attribute, pens};
 use memory::Pointer;
 
 // The codes of a segment without a list, where its words stand one after the other in memory.
@@ -20,15 +20,15 @@ pub(crate) fn draw_without_list(
     pen: Pen,
     words: u32,
     cells: &mut [u32],
-) -> Drawn
+) -> Reached
     requires end_in_bounds { (room.end ≤ length cells.old) × (pen.column ≤ room.end) × (count ≤ 255) × (words ≤ 4000000000) }
     requires present_value { (pen.list.present ≡ false) × (is_run settings.linear (length mem.now) p.address ((count + 1) / 2) ≡ true) }
-    ensures within { Within room.end (words + 2 * count) result }
-    ensures cells_after { drawn result cells.new ≡ run_from words mem.now (codes settings room.source room.end count p (so_far pen cells.old)) }
+    ensures within { (result.pen.column ≤ room.end) × (result.words ≤ words + 2 * count) }
+    ensures cells_after { given result.words (so_far result.pen cells.new) ≡ run_from words mem.now (codes settings room.source room.end count p (so_far pen cells.old)) }
 {
     let first = p.address;
     let at = (first / 2) as usize;
-    Drawn::Accepted {
+    Reached {
         pen: draw_characters(mem, settings.hidden, room, count as usize, at, pen, cells),
         words: words + (count + 1) / 2,
     }
@@ -52,7 +52,7 @@ pub fn draw_characters(
         return pen;
     }
     let end = room.end;
-    let pairs = lesser(count, end - pen.column) / 2;
+    let pairs = count.min(end - pen.column) / 2;
     let source = room.source;
     let after = draw_pairs(mem, source, at, pairs, pen, cells);
     if pairs * 2 < count {
@@ -78,18 +78,10 @@ fn draw_pairs(
 {
     let bits = attribute::cell(source, pen.latch, 0);
     let column = pen.column;
-    let mut i = 0;
-    while i < pairs {
+    for i in 0..pairs {
         let w = mem[at + i];
         cells[column + 2 * i] = bits + memory::high_byte(w) as u32;
         cells[column + 2 * i + 1] = bits + memory::low_byte(w) as u32;
-        i += 1;
     }
     pens::moved_to(column + 2 * pairs, pen)
-}
-
-pub fn lesser(a: usize, b: usize) -> usize
-    ensures { result ≡ min a b }
-{
-    if a < b { a } else { b }
 }

@@ -11,6 +11,12 @@ pub feed-next : (bytes : List ℕ) (i : ℕ) (s : Script) (m : List ℕ) → i <
 unfolding feeding
 feed-next bytes i s m h = rw (add-one, drop-cons bytes i 0)
 
+-- a draw or a refusal is what the script comes to
+pub stops : (o : Step) (m : List ℕ) (next : Script → List ℕ → Stepped) → ((s : Script) → o ≡ More s → ⊥) → onward (stepped o m) next ≡ stepped o m
+stops (More s) m next h = absurd (h s refl)
+stops (Draw σ) m next h = refl
+stops (Refused n) m next h = refl
+
 -- the parts in which a script comes do not matter
 module _ (b : List ℕ) (f g : Script → List ℕ → Stepped) (e : (s : Script) (m : List ℕ) → f s m ≡ onward (g s m) (feeding b)) where
   onward-part : (o : Step) (m : List ℕ) → onward (stepped o m) f ≡ onward (onward (stepped o m) g) (feeding b)

@@ -1,6 +1,6 @@
 #![tactic(auto)]
 // The script of the draw program: its records, read byte by byte, set settings and memory.
-ghost use Rattle.std.specs.Prelude.{◌≡◌, ◌-◌};
+ghost use Rattle.std.specs.Prelude.{◌≡◌};
 ghost use Rattle.memory.specs.Word.{when◌then◌else◌};
 ghost use Rattle.script.specs.Records.{body_length, switched, registered, accepted, settings_after, memory_after};
 ghost use Rattle.script.specs.Feeding.{beginning, counted, begun, taken, stepped, ended, step_of, feeding, at_end};
@@ -47,20 +47,11 @@ pub fn feed(script: Script, bytes: &[u8], mem: &mut [u16; 16384]) -> Step
     ensures { stepped result mem.new ≡ feeding bytes.now script mem.old }
 {
     let mut s = script;
-    let mut i = 0;
-    while i < bytes.len() {
-        match read_byte(s, bytes[i], mem) {
-            Step::More(next) => {
-                s = next;
-            }
-            Step::Draw(settings) => {
-                return Step::Draw(settings);
-            }
-            Step::Refused(offset) => {
-                return Step::Refused(offset);
-            }
+    for byte in bytes {
+        match read_byte(s, *byte, mem) {
+            Step::More(next) => s = next,
+            stopped => return stopped,
         }
-        i += 1;
     }
     Step::More(s)
 }
@@ -76,14 +67,10 @@ pub fn at_end(script: Script) -> u64
 pub fn read_byte(script: Script, byte: u8, mem: &mut [u16; 16384]) -> Step
     ensures { stepped result mem.new ≡ step_of script byte mem.old }
 {
-    if script.left == 0 {
-        return begin_record(script, byte);
-    }
-    let s = take(script, byte);
-    if script.left == 1 {
-        end_record(s, mem)
-    } else {
-        Step::More(s)
+    match script.left {
+        0 => begin_record(script, byte),
+        1 => end_record(take(script, byte), mem),
+        _ => Step::More(take(script, byte)),
     }
 }
 
@@ -91,22 +78,17 @@ pub fn read_byte(script: Script, byte: u8, mem: &mut [u16; 16384]) -> Step
 fn begin_record(s: Script, kind: u8) -> Step
     ensures { result ≡ begun s kind }
 {
-    if kind == 0 {
-        let settings = s.settings;
-        return Step::Draw(settings);
-    }
-    if kind <= 3 {
-        let settings = s.settings;
-        Step::More(Script {
-            settings,
+    match kind {
+        0 => Step::Draw(s.settings),
+        1..=3 => Step::More(Script {
+            settings: s.settings,
             read: count(s.read),
             start: s.read,
             kind,
             left: body_length(kind),
             body: 0,
-        })
-    } else {
-        Step::Refused(s.read)
+        }),
+        _ => Step::Refused(s.read),
     }
 }
 
@@ -114,14 +96,11 @@ fn begin_record(s: Script, kind: u8) -> Step
 fn take(s: Script, byte: u8) -> Script
     ensures { result ≡ taken s byte }
 {
-    let settings = s.settings;
     Script {
-        settings,
         read: count(s.read),
-        start: s.start,
-        kind: s.kind,
-        left: one_less(s.left),
+        left: s.left.saturating_sub(1),
         body: s.body % 4294967296 * 256 + byte as u64,
+        ..s
     }
 }
 
@@ -133,16 +112,8 @@ fn end_record(s: Script, mem: &mut [u16; 16384]) -> Step
         return Step::Refused(s.start);
     }
     store(s.kind, s.body, mem);
-    let before = s.settings;
-    let settings = settings_after(s.kind, s.body, before);
-    Step::More(Script {
-        settings,
-        read: s.read,
-        start: s.start,
-        kind: s.kind,
-        left: s.left,
-        body: s.body,
-    })
+    let settings = settings_after(s.kind, s.body, s.settings);
+    Step::More(Script { settings, ..s })
 }
 
 // Is a record with this body accepted?
@@ -153,7 +124,7 @@ fn is_accepted(kind: u8, body: u64) -> bool
     match kind {
         1 => address <= 0x18,
         2 => (address % 2 == 0) & (address / 2 < 16384),
-        _ => !(body / 4 % 4 == 3),
+        _ => body / 4 % 4 != 3,
     }
 }
 
@@ -162,10 +133,8 @@ fn store(kind: u8, body: u64, mem: &mut [u16])
     ensures { mem.new ≡ memory_after kind body mem.old }
 {
     let i = (body / 65536 / 2) as usize;
-    if kind == 2 {
-        if i < mem.len() {
-            mem[i] = (body % 65536) as u16;
-        }
+    if (kind == 2) && (i < mem.len()) {
+        mem[i] = (body % 65536) as u16;
     }
 }
 
@@ -183,27 +152,12 @@ fn settings_after(kind: u8, body: u64, before: Settings) -> Settings
 fn set_switches(switches: u64, s: Settings) -> Settings
     ensures { result ≡ switched switches s }
 {
-    let interlace = settings::interlace_of((switches / 4 % 4) as u32);
-    let edition = s.edition;
-    let top = s.top;
-    let tow = s.tow;
     Settings {
         linear: switches % 2 == 1,
         hidden: switches / 2 % 2 == 1,
-        interlace,
+        interlace: Interlace::from((switches / 4 % 4) as u32),
         cursor: switches / 16 % 2 == 1,
-        flag: s.flag,
-        top,
-        tow,
-        vsw: s.vsw,
-        vsd: s.vsd,
-        val: s.val,
-        vtot: s.vtot,
-        hsync: s.hsync,
-        hsd: s.hsd,
-        htc: s.htc,
-        htd: s.htd,
-        edition,
+        ..s
     }
 }
 
@@ -211,8 +165,6 @@ fn set_switches(switches: u64, s: Settings) -> Settings
 fn set_register(register: u64, v: u16, s: Settings) -> Settings
     ensures { result ≡ registered register v s }
 {
-    let interlace = s.interlace;
-    let edition = s.edition;
     let top = PointerWords {
         first: pick(register == 0x09, v, s.top.first),
         second: pick(register == 0x0a, v, s.top.second),
@@ -222,10 +174,6 @@ fn set_register(register: u64, v: u16, s: Settings) -> Settings
         second: pick(register == 0x0c, v, s.tow.second),
     };
     Settings {
-        linear: s.linear,
-        hidden: s.hidden,
-        interlace,
-        cursor: s.cursor,
         flag: pick(register == 0x08, v, s.flag),
         top,
         tow,
@@ -237,7 +185,7 @@ fn set_register(register: u64, v: u16, s: Settings) -> Settings
         hsd: pick(register == 0x16, v % 512, s.hsd),
         htc: pick(register == 0x17, v % 1024, s.htc),
         htd: pick(register == 0x18, v % 1024, s.htd),
-        edition,
+        ..s
     }
 }
 
@@ -257,17 +205,11 @@ fn body_length(kind: u8) -> u8
     }
 }
 
-fn one_less(n: u8) -> u8
-    ensures { result ≡ n - 1 }
-{
-    if n == 0 { 0 } else { n - 1 }
-}
-
 // One byte more.
 fn count(n: u64) -> u64
     ensures { result ≡ counted n }
 {
-    std::num::wrapping_add_u64(n, 1)
+    n.wrapping_add(1)
 }
 
 fn no_settings() -> Settings

@@ -1,8 +1,9 @@
 -- Bytes that are read after others are read with them.
-use Rattle.std.proofs.Common.{◌≡◌, ◌<◌, ◌^◌, sym, ap, ◌∙◌, List, [], ◌∷◌, ◌++◌, ℕ, zero, suc, length, replicate}
-use Rattle.std.proofs.KnownBytes.{Consumes-trans}
+use Rattle.std.proofs.Common.{◌≡◌, ◌<◌, ◌^◌, sym, ap, ◌∙◌, List, [], ◌∷◌, ◌++◌, ℕ, zero, suc, length, take, replicate, Result, Ok, Err}
+use Rattle.std.proofs.KnownBytes.{Consumes-trans, Consumes-nil, Consumes-kept}
 use Rattle.std.specs.declared.option.Option.{Option}
-use Rattle.std.specs.Io.KnownBytes.{Consumes}
+use Rattle.std.specs.Io.KnownBytes.{Consumes, ReadConsumes}
+use Rattle.std.specs.Result.{result_unwrap_or}
 use Rattle.script.specs.declared.Script.{Script}
 use Rattle.script.specs.declared.Step.{Step}
 use Rattle.script.specs.declared.Step.TheVariants.{More}
@@ -20,6 +21,12 @@ bytes_append : (k l : List ℕ) → Bytes k → Bytes l → Bytes (k ++ l)
 bytes_append [] l v w i = w i
 bytes_append (x ∷ k) l v w zero = v 0
 bytes_append (x ∷ k) l v w (suc i) = bytes_append k l (λ j. v (suc j)) w i
+
+-- what a read consumed, where one that fails counts as the end
+pub consumed : {E : Type 0} (before after : Option (List ℕ)) (r : Result ℕ E) (buffer : List ℕ) → ReadConsumes before after r buffer
+    → Consumes before after (take (result_unwrap_or r 0) buffer)
+consumed before after (Ok n) buffer c = c.0
+consumed before after (Err e) buffer c = Consumes-kept _ _ _ _ (Consumes-nil _) c
 
 -- bytes led to a script that wants more
 pub record Going (before after : Option (List ℕ)) (s : Script) (rs m : List ℕ) (t : Script) (registers memory : List ℕ) : Type 0 where

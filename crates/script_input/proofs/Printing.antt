@@ -32,9 +32,9 @@ module _ (f : List ℕ → Outcome → List ℕ) (refused : (rs qs : List ℕ) (
     printed = λ h. subst (Appends held holds) (made_of f refused x.leads h x.small ∙ same x.bytes) w;
   }
 
-  -- unless a write has failed
-  pub printed : {T E : Type 0} (result : Result T E) (held holds : Option (List ℕ)) {before after : Option (List ℕ)} {r : Step} {registers memory : List ℕ}
-      → Taken before after beginning (replicate 25 0) (replicate 16384 0) r registers memory
-      → OnOk result (Appends held holds (f registers (outcome (stepped r memory)))) → OnOk result (Prints output before after held holds)
-  printed (Ok x) held holds t w = prints held holds t w
-  printed (Err e) held holds t w = tt
+  -- unless a write has failed, where the text that was written is that of the script read
+  pub printed : {T E : Type 0} (result : Result T E) (held holds : Option (List ℕ)) {text : List ℕ} {before after : Option (List ℕ)} {r : Step}
+      {registers memory : List ℕ} → Taken before after beginning (replicate 25 0) (replicate 16384 0) r registers memory
+      → text ≡ f registers (outcome (stepped r memory)) → OnOk result (Appends held holds text) → OnOk result (Prints output before after held holds)
+  printed (Ok x) held holds t e w = prints held holds t (subst (Appends held holds) e w)
+  printed (Err e) held holds t _ w = tt

@@ -1,4 +1,5 @@
 -- Scrolls over several shift calls, from what a call gives.
+use Rattle.std.proofs.Common.{Result, Ok, Err}
 use mathlib.Core.Path.{◌≡◌, refl, ap, sym, ◌∙◌}
 use mathlib.Core.Bool.{Bool, true, false}
 use mathlib.Core.List.{List}
@@ -9,6 +10,7 @@ use native.Mathlib.Omega.{arith}
 use lib.IntN.{pos}
 use borrow.Author.Tests.{eq-eqb, ne_eqb, le-leb, lt-leb}
 use Rattle.memory.specs.Reading.{given, run}
+use Rattle.memory.specs.declared.Refusal.{Refusal}
 use Rattle.settings.specs.declared.PointerWords.{PointerWords}
 use Rattle.settings.specs.declared.Settings.{Settings}
 use Rattle.settings.specs.Good.{check_settings}
@@ -16,14 +18,13 @@ use Rattle.blocks.specs.declared.MainBlock.{MainBlock}
 use Rattle.start.specs.Top.{enabled, upward, rate_number, top_block}
 use Rattle.scroll.specs.declared.Offset.{Offset}
 use Rattle.scroll.specs.declared.Scroll.{Scroll}
-use Rattle.scroll.specs.declared.ShiftAnswer.{ShiftAnswer}
-use Rattle.scroll.specs.declared.ShiftAnswer.TheVariants.{Accepted, Refused}
 use Rattle.scroll.specs.Rate.{rate}
 use Rattle.scroll.specs.Scroll.{direction_of, in_range, from_last, moved, shifted, still, reached, edge_lines, shift_by, shift_answered, shift_call}
 use Rattle.scroll.specs.Answers.{lines_read, Small}
 use Rattle.scroll.proofs.ShiftLaws.{disabled, row_read, top_read, settings-passed, RateBounds, rate-bounds}
 use Rattle.scroll.proofs.ShiftBound.{again, lines-back}
 use Rattle.scroll.proofs.Rates.{gone, calls_of, gone-more, not_yet, then-ends}
+use Rattle.scroll.specs.declared.FrameShift.{FrameShift}
 
 -- ---- one call ----
 -- a scroll ends when the lines moved reach the row's: shift 0, phase 0, and the hard top is the soft one; else it goes on
@@ -66,7 +67,7 @@ module _ (σ : Settings) (m : List ℕ) (soft : PointerWords) (hard : MainBlock)
 
   -- "Enable off makes shift and phase 0": the hard top stays
   pub enable-off : enabled hard ≡ false → (last : Scroll) → in_range last ≡ true
-      → shift_call σ m soft last ≡ Accepted (shifted (upward hard) still σ.top)
+      → shift_call σ m soft last ≡ Ok (shifted (upward hard) still σ.top)
   enable-off e last h = by-top last h ∙ disabled m σ soft last hard e
 
   -- "so does a turned direction, before the move": the call gives what it gives from shift 0 and phase 0
@@ -78,12 +79,12 @@ module _ (σ : Settings) (m : List ℕ) (soft : PointerWords) (hard : MainBlock)
 
   -- ---- a scroll over several calls, with the same settings, memory and soft top ----
   -- the answer of a call from the scroll that the one before gave
-  abbrev pub from_before : ShiftAnswer → ShiftAnswer
-  from_before (Accepted s) = shift_call σ m soft s.scroll
-  from_before (Refused r) = Refused r
+  abbrev pub from_before : Result FrameShift Refusal → Result FrameShift Refusal
+  from_before (Ok s) = shift_call σ m soft s.scroll
+  from_before (Err r) = Err r
 
   -- the answer of call k + 1 from shift 0 and phase 0
-  unfoldable pub nth_call : ℕ → ShiftAnswer
+  unfoldable pub nth_call : ℕ → Result FrameShift Refusal
   nth_call zero = shift_call σ m soft (shifted (upward hard) still σ.top).scroll
   nth_call (suc k) = from_before (nth_call k)
 
@@ -92,11 +93,11 @@ module _ (σ : Settings) (m : List ℕ) (soft : PointerWords) (hard : MainBlock)
     where
       call : (g : Offset) → Small g
           → shift_call σ m soft (shifted (upward hard) g σ.top).scroll
-          ≡ Accepted (reached (upward hard) n σ.top soft (moved (rate (rate_number hard)) g))
+          ≡ Ok (reached (upward hard) n σ.top soft (moved (rate (rate_number hard)) g))
       call g h =
           by-top (shifted (upward hard) g σ.top).scroll (again (upward hard) g σ.top h)
           ∙ row_read m σ soft (shifted (upward hard) g σ.top).scroll hard on (sym (ap lines_read row))
-          ∙ ap (λ (o : Offset). Accepted (reached (upward hard) n σ.top soft (moved (rate (rate_number hard)) o))) (from-same (upward hard) g σ.top)
+          ∙ ap (λ (o : Offset). Ok (reached (upward hard) n σ.top soft (moved (rate (rate_number hard)) o))) (from-same (upward hard) g σ.top)
 
       bounds : RateBounds (rate (rate_number hard))
       bounds = rate-bounds (rate_number hard) (omega arith)
@@ -104,16 +105,16 @@ module _ (σ : Settings) (m : List ℕ) (soft : PointerWords) (hard : MainBlock)
       -- call k + 1, while the row's lines are not reached
       call-after : (k : ℕ) → k < calls_of (rate (rate_number hard)) n
           → shift_call σ m soft (shifted (upward hard) (gone (rate (rate_number hard)) k) σ.top).scroll
-          ≡ Accepted (reached (upward hard) n σ.top soft (gone (rate (rate_number hard)) (k + 1)))
+          ≡ Ok (reached (upward hard) n σ.top soft (gone (rate (rate_number hard)) (k + 1)))
       call-after k h =
           let r = rate (rate_number hard) in
           let lines : (gone r k).lines < n = not_yet r bounds.some-frames n bounds.some-lines some k h in
           let phase : k % r.frames < r.frames = mod-lt k bounds.some-frames in
           call (gone r k) (record { lines = omega arith; phase = omega (arith, bounds.few-frames) })
-          ∙ ap (λ (o : Offset). Accepted (reached (upward hard) n σ.top soft o)) (gone-more r bounds.some-frames k)
+          ∙ ap (λ (o : Offset). Ok (reached (upward hard) n σ.top soft o)) (gone-more r bounds.some-frames k)
 
       call-before : (k : ℕ) → k < calls_of (rate (rate_number hard)) n
-          → nth_call k ≡ Accepted (reached (upward hard) n σ.top soft (gone (rate (rate_number hard)) (k + 1)))
+          → nth_call k ≡ Ok (reached (upward hard) n σ.top soft (gone (rate (rate_number hard)) (k + 1)))
       unfolding nth_call
       call-before zero h =
           let none : still ≡ gone (rate (rate_number hard)) 0 = rw (zero-div (rate (rate_number hard)).frames, zero-mod (rate (rate_number hard)).frames, zero-mul (rate (rate_number hard)).lines) in
@@ -121,20 +122,20 @@ module _ (σ : Settings) (m : List ℕ) (soft : PointerWords) (hard : MainBlock)
       call-before (suc k) h =
           let r = rate (rate_number hard) in
           let k₁ : k + 1 < calls_of r n = omega arith in
-          ap from_before (call-before k (omega arith) ∙ ap Accepted (goes_on (upward hard) n σ.top soft (gone r (k + 1)) (not_yet r bounds.some-frames n bounds.some-lines some (k + 1) k₁)))
+          ap from_before (call-before k (omega arith) ∙ ap Ok (goes_on (upward hard) n σ.top soft (gone r (k + 1)) (not_yet r bounds.some-frames n bounds.some-lines some (k + 1) k₁)))
           ∙ rw (add-one k) (call-after (suc k) h)
 
       -- before the rule's number of calls the shift has the rate's lines for each time that its frames have passed, and the hard top stays
       pub on-the-way : (k : ℕ) → k + 1 < calls_of (rate (rate_number hard)) n
-          → nth_call k ≡ Accepted (shifted (upward hard) (gone (rate (rate_number hard)) (k + 1)) σ.top)
+          → nth_call k ≡ Ok (shifted (upward hard) (gone (rate (rate_number hard)) (k + 1)) σ.top)
       on-the-way k h =
           let r = rate (rate_number hard) in
           call-before k (omega arith)
-          ∙ ap Accepted (goes_on (upward hard) n σ.top soft (gone r (k + 1)) (not_yet r bounds.some-frames n bounds.some-lines some (k + 1) h))
+          ∙ ap Ok (goes_on (upward hard) n σ.top soft (gone r (k + 1)) (not_yet r bounds.some-frames n bounds.some-lines some (k + 1) h))
 
       -- the scroll ends with exactly that call
-      pub at-the-end : (k : ℕ) → k + 1 ≡ calls_of (rate (rate_number hard)) n → nth_call k ≡ Accepted (shifted (upward hard) still soft)
+      pub at-the-end : (k : ℕ) → k + 1 ≡ calls_of (rate (rate_number hard)) n → nth_call k ≡ Ok (shifted (upward hard) still soft)
       at-the-end k h =
           let r = rate (rate_number hard) in
           let full : n ≤ (gone r (k + 1)).lines = rw h (then-ends r bounds.some-frames n bounds.some-lines some) in
-          call-before k (omega arith) ∙ ap Accepted (reached-end (upward hard) n σ.top soft (gone r (k + 1)) full)
+          call-before k (omega arith) ∙ ap Ok (reached-end (upward hard) n σ.top soft (gone r (k + 1)) full)

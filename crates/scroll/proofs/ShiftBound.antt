@@ -1,5 +1,6 @@
 -- A shift call reads at most 97 words: two main blocks, a row block and a redefinition. What it gives passes the next call's check 3: the
 -- shift is within 31 of 0, its sign fits the direction given, and the phase is at most 7. An enabled call's is below the row's scan lines.
+use Rattle.std.proofs.Common.{Ok}
 use mathlib.Core.Path.{◌≡◌, refl, sym, ap, ◌∙◌}
 use mathlib.Core.Bool.{Bool, true, false, ◌&&◌}
 use mathlib.Core.List.{List}
@@ -30,7 +31,6 @@ use Rattle.start.proofs.StartBound.{top-reads}
 use Rattle.scroll.specs.declared.Offset.{Offset}
 use Rattle.scroll.specs.declared.Scroll.{Scroll}
 use Rattle.scroll.specs.declared.FrameShift.{FrameShift}
-use Rattle.scroll.specs.declared.ShiftAnswer.TheVariants.{Accepted}
 use Rattle.scroll.specs.Rate.{rate}
 use Rattle.scroll.specs.Scroll.{signed, fits_direction, in_range, from_last, moved, shifted, still, reached, first_lines, edge_lines, shift_by, shift_from, shift, shift_answered, shift_call}
 use Rattle.scroll.specs.Answers.{lines_read, Small}
@@ -100,11 +100,11 @@ shift-reads σ soft last =
 
 -- what an accepted call gives passes the next call's check 3
 pub passes : (σ : Settings) (m : List ℕ) → Words m → (soft : PointerWords) (last : Scroll) {s : FrameShift}
-    → shift_call σ m soft last ≡ Accepted s → in_range s.scroll ≡ true
+    → shift_call σ m soft last ≡ Ok s → in_range s.scroll ≡ true
 unfolding shift_call
 passes σ m w soft last {s} e = out (run-reads 0 m w (lit≤ tt) (shift-reads σ soft last)) e
   where
-    out : {o : Outcome FrameShift} → Within (λ t. in_range t.scroll ≡ true) 97 o → shift_answered o ≡ Accepted s → in_range s.scroll ≡ true
+    out : {o : Outcome FrameShift} → Within (λ t. in_range t.scroll ≡ true) 97 o → shift_answered o ≡ Ok s → in_range s.scroll ≡ true
     out (given-within {a = t} _ h) d = let same : s ≡ t = cc in rw same h
     out refused-within d = let z : ◌≡◌ {A = ℕ} 0 1 = cc in absurd (omega arith)
 
@@ -127,7 +127,7 @@ reached-below up n hard soft g h =
 
 -- what an accepted enabled call gives, where that row has n scan lines
 pub below_row : (σ : Settings) (m : List ℕ) → Words m → (soft : PointerWords) (last : Scroll) {s : FrameShift} {hard : MainBlock} {k n : ℕ}
-    → shift_call σ m soft last ≡ Accepted s → run m (top_block σ.linear σ.top) ≡ given 7 hard → enabled hard ≡ true
+    → shift_call σ m soft last ≡ Ok s → run m (top_block σ.linear σ.top) ≡ given 7 hard → enabled hard ≡ true
     → run m (edge_lines σ.linear soft hard) ≡ given k n → nat_abs s.scroll.shift < n
 unfolding shift_call
 below_row σ m w soft last {s} {hard} {n} e top on edge = by-settings (run m (check_settings σ)) refl

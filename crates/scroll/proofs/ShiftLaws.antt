@@ -1,4 +1,5 @@
 -- What a shift call comes to: a law for each way through its definitions, from what the readings in it come to.
+use Rattle.std.proofs.Common.{Ok, Err}
 use mathlib.Core.Path.{◌≡◌, refl, ap, ◌∙◌}
 use mathlib.Core.Bool.{Bool, true, false, ◌&&◌, ◌||◌}
 use mathlib.Core.List.{List}
@@ -23,7 +24,6 @@ use Rattle.scroll.specs.declared.Rate.{Rate}
 use Rattle.scroll.specs.declared.Offset.{Offset}
 use Rattle.scroll.specs.declared.Scroll.{Scroll}
 use Rattle.scroll.specs.declared.FrameShift.{FrameShift}
-use Rattle.scroll.specs.declared.LinesRead.TheVariants.{Read, Refused}
 use Rattle.scroll.specs.Rate.{rate}
 use Rattle.scroll.specs.Scroll.{fits_direction, in_range, from_last, moved, shifted, still, reached, first_lines, edge_lines, shift_by, shift_from, shift, shift_answered}
 use Rattle.scroll.specs.Answers.{lines_read, Small}
@@ -96,11 +96,11 @@ shift-after : (n : ℕ) (o : Outcome FrameShift) → shift_answered (after n o) 
 shift-after n (given i a) = refl
 shift-after n (refused x) = refl
 
-lines_of : (o : Outcome ℕ) {t : ℕ} → Read t ≡ lines_read o → (n : ℕ) × (o ≡ given n t)
+lines_of : (o : Outcome ℕ) {t : ℕ} → Ok t ≡ lines_read o → (n : ℕ) × (o ≡ given n t)
 lines_of (given n a) e = (n, cc)
 lines_of (refused x) e = let z : ◌≡◌ {A = ℕ} 0 1 = cc in absurd (omega arith)
 
-refusal-of : (o : Outcome ℕ) {x : Fault} → Refused x ≡ lines_read o → o ≡ refused x
+refusal-of : (o : Outcome ℕ) {x : Fault} → Err x ≡ lines_read o → o ≡ refused x
 refusal-of (given n a) e = let z : ◌≡◌ {A = ℕ} 0 1 = cc in absurd (omega arith)
 refusal-of (refused y) e = cc
 
@@ -140,12 +140,12 @@ module _ (m : List ℕ) (σ : Settings) (soft : PointerWords) (last : Scroll) wh
     disabled h = rw h (ap shift_answered (run-done 0 m (shifted (upward hard) still σ.top)))
 
     module _ (h : enabled hard ≡ true) where
-      pub row-refused : {x : Fault} → Refused x ≡ lines_read (run m (edge_lines σ.linear soft hard))
+      pub row-refused : {x : Fault} → Err x ≡ lines_read (run m (edge_lines σ.linear soft hard))
           → run m (shift_by σ soft last hard) ≡ refused x
       unfolding shift_by
       row-refused e = rw h (bind-refused 0 m (edge_lines σ.linear soft hard) _ (refusal-of _ e))
 
-      pub row_read : {n : ℕ} → Read n ≡ lines_read (run m (edge_lines σ.linear soft hard))
+      pub row_read : {n : ℕ} → Ok n ≡ lines_read (run m (edge_lines σ.linear soft hard))
           → shift_answered (run m (shift_by σ soft last hard))
           ≡ shift_answered (given 0 (reached (upward hard) n σ.top soft (moved (rate (rate_number hard)) (from_last (upward hard) last))))
       unfolding shift_by

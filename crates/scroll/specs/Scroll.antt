@@ -1,9 +1,10 @@
 -- Document 02, "Soft scroll of the background": the shift call. "Before each frame a shift call takes a soft top (two words), reads the
 -- hard top's main block and gives shift, phase, direction (bit 13) and hard top from the last ones." The hard top is the settings' TOP.
-use Rattle.std.specs.Prelude.{ℕ, ◌+◌, Bool, true, false, ◌&&◌, ◌||◌, List, ℤ, pos, neg_ℤ, nat_abs, leb, eqb}
+use Rattle.std.specs.Prelude.{ℕ, ◌+◌, Bool, true, false, ◌&&◌, ◌||◌, List, ℤ, pos, neg_ℤ, nat_abs, leb, eqb, Result, Ok, Err}
 use Rattle.std.specs.Int.Signed.{le_z}
 use Rattle.memory.specs.Word.{when◌then◌else◌}
 use Rattle.memory.specs.Reading.{Reading, done, ◌>>=◌, ◌>>◌, check, Outcome, given, refused, refusal, run}
+use Rattle.memory.specs.declared.Refusal.{Refusal}
 use Rattle.settings.specs.declared.PointerWords.{PointerWords}
 use Rattle.settings.specs.declared.Settings.{Settings}
 use Rattle.settings.specs.Good.{check_settings}
@@ -15,8 +16,6 @@ use Rattle.scroll.specs.declared.Rate.{Rate}
 use Rattle.scroll.specs.declared.Offset.{Offset}
 use Rattle.scroll.specs.declared.Scroll.{Scroll}
 use Rattle.scroll.specs.declared.FrameShift.{FrameShift}
-use Rattle.scroll.specs.declared.ShiftAnswer.{ShiftAnswer}
-use Rattle.scroll.specs.declared.ShiftAnswer.TheVariants.{Accepted, Refused}
 use Rattle.scroll.specs.Rate.{rate}
 
 -- "The shift of a frame is a signed count of scan lines, positive up and negative down"
@@ -100,9 +99,9 @@ shift σ soft last = do
   shift_from σ soft last
 
 -- "in a shift call a start's and a row's as met, nothing changed"; "A refusal met in no row .. has row 0"
-abbrev pub shift_answered : Outcome FrameShift → ShiftAnswer
-shift_answered (given n s) = Accepted s
-shift_answered (refused x) = Refused (refusal 0 x)
+abbrev pub shift_answered : Outcome FrameShift → Result FrameShift Refusal
+shift_answered (given n s) = Ok s
+shift_answered (refused x) = Err (refusal 0 x)
 
-unfoldable pub shift_call : Settings → List ℕ → PointerWords → Scroll → ShiftAnswer
+unfoldable pub shift_call : Settings → List ℕ → PointerWords → Scroll → Result FrameShift Refusal
 shift_call σ m soft last = shift_answered (run m (shift σ soft last))

@@ -8,9 +8,9 @@ ghost use Rattle.scroll.specs.Scroll.{signed, direction_of, fits_direction, in_r
 ghost use Rattle.scroll.specs.Answers.{lines_read, Small};
 
 use background::BackgroundRead;
-use blocks::{MainBlock, MainRead};
+use blocks::MainBlock;
 use memory::{Fault, Refusal};
-use settings::{PointerWords, Settings, SettingsCheck};
+use settings::{PointerWords, Settings};
 
 // A scroll between two frames: the shift in scan lines, positive up and negative down; the phase, frames since the last move; the
 // direction, 1 up and 0 down.
@@ -28,13 +28,6 @@ pub struct FrameShift {
     pub top: PointerWords,
 }
 
-// The answer of a shift call, or its refusal.
-#[derive(Clone, Copy)]
-pub enum ShiftAnswer {
-    Accepted(FrameShift),
-    Refused(Refusal),
-}
-
 // A rate: it moves its lines once in its frames.
 #[derive(Clone, Copy)]
 pub struct Rate {
@@ -49,35 +42,34 @@ pub struct Offset {
     pub phase: u32,
 }
 
-// The scan lines of a row, or the refusal of a reading.
-#[derive(Clone, Copy)]
-pub enum LinesRead {
-    Read(u8),
-    Refused(Fault),
-}
-
 // The shift of the next frame from the last one, with the hard top: the settings' TOP, or the soft top where a scroll ends.
-pub fn shift(settings: Settings, mem: &[u16], soft: PointerWords, last: Scroll) -> ShiftAnswer
+pub fn shift(
+    settings: Settings,
+    mem: &[u16],
+    soft: PointerWords,
+    last: Scroll,
+) -> Result<FrameShift, Refusal>
     ensures { result ≡ shift_call settings mem.now soft last }
 {
-    match settings::check_settings(settings) {
-        SettingsCheck::Refused(fault) => ShiftAnswer::Refused(memory::refusal_of(0, fault)),
-        SettingsCheck::Passed => shift_from(settings, mem, soft, last),
-    }
+    memory::told_in(0, settings::check_settings(settings))?;
+    shift_from(settings, mem, soft, last)
 }
 
 // The rest of a shift call, once its settings are checked: the last shift, and the hard top's main block.
-fn shift_from(settings: Settings, mem: &[u16], soft: PointerWords, last: Scroll) -> ShiftAnswer
+fn shift_from(
+    settings: Settings,
+    mem: &[u16],
+    soft: PointerWords,
+    last: Scroll,
+) -> Result<FrameShift, Refusal>
     ensures { result ≡ shift_answered (run mem.now (shift_from settings soft last)) }
 {
     if !in_range(last) {
-        return ShiftAnswer::Refused(memory::refusal_of(0, memory::fault_of(3)));
+        return memory::refused(3);
     }
     let top = settings.top;
-    match start::top_block(mem, settings.linear, top) {
-        MainRead::Refused(fault) => ShiftAnswer::Refused(memory::refusal_of(0, fault)),
-        MainRead::Read(hard) => shift_by(settings, mem, soft, last, hard),
-    }
+    let hard = memory::told_in(0, start::top_block(mem, settings.linear, top))?;
+    shift_by(settings, mem, soft, last, hard)
 }
 
 // The rest of a shift call, once the hard top's main block is read.
@@ -87,7 +79,7 @@ fn shift_by(
     soft: PointerWords,
     last: Scroll,
     hard: MainBlock,
-) -> ShiftAnswer
+) -> Result<FrameShift, Refusal>
     requires { in_range last ≡ true }
     ensures { result ≡ shift_answered (run mem.now (shift_by settings soft last hard)) }
 {
@@ -95,42 +87,36 @@ fn shift_by(
     let up = is_up(hard.m4);
     if !is_enabled(hard.m4) {
         let still = Offset { lines: 0, phase: 0 };
-        return ShiftAnswer::Accepted(shifted(up, still, top));
+        return Ok(shifted(up, still, top));
     }
-    match edge_lines(mem, settings.linear, soft, hard) {
-        LinesRead::Refused(fault) => ShiftAnswer::Refused(memory::refusal_of(0, fault)),
-        LinesRead::Read(lines) => {
-            let last_moved = from_last(up, last);
-            let now_moved = moved(rate_of(hard.m4), last_moved);
-            ShiftAnswer::Accepted(reached(up, lines, top, soft, now_moved))
-        }
-    }
+    let lines = memory::told_in(0, edge_lines(mem, settings.linear, soft, hard))?;
+    let last_moved = from_last(up, last);
+    let now_moved = moved(rate_of(hard.m4), last_moved);
+    Ok(reached(up, lines, top, soft, now_moved))
 }
 
 // The scan lines of the row that leaves or enters.
-fn edge_lines(mem: &[u16], linear: bool, soft: PointerWords, hard: MainBlock) -> LinesRead
+fn edge_lines(mem: &[u16], linear: bool, soft: PointerWords, hard: MainBlock) -> Result<u8, Fault>
     ensures { result ≡ lines_read (run mem.now (edge_lines linear soft hard)) }
 {
     if is_up(hard.m4) {
         return first_lines(mem, linear, hard);
     }
-    match start::top_block(mem, linear, soft) {
-        MainRead::Refused(fault) => LinesRead::Refused(fault),
-        MainRead::Read(main) => first_lines(mem, linear, main),
-    }
+    let main = start::top_block(mem, linear, soft)?;
+    first_lines(mem, linear, main)
 }
 
 // The scan lines of a list's first row.
-fn first_lines(mem: &[u16], linear: bool, main: MainBlock) -> LinesRead
+fn first_lines(mem: &[u16], linear: bool, main: MainBlock) -> Result<u8, Fault>
     ensures { result ≡ lines_read (run mem.now (first_lines linear main)) }
 {
     let rows = main.rows;
     let format = start::first_format(main.lines);
     let mut back = [0u16; 75];
-    match background::background_block(mem, linear, rows, format, &mut back) {
-        BackgroundRead::Refused(fault) => LinesRead::Refused(fault),
-        BackgroundRead::Read { block: _, format } => LinesRead::Read(format.lines),
-    }
+    let BackgroundRead { block: _, format } = background::background_block(
+        mem, linear, rows, format, &mut back,
+    )?;
+    Ok(format.lines)
 }
 
 // M4's bit 14.
@@ -207,11 +193,7 @@ fn lines_of(shift: i32) -> u32
     requires { nat_abs shift ≤ 31 }
     ensures { result ≡ nat_abs shift }
 {
-    if shift < 0 {
-        (0 - shift) as u32
-    } else {
-        shift as u32
-    }
+    shift.unsigned_abs()
 }
 
 // The shift of some lines, positive up and negative down.

@@ -1,4 +1,5 @@
 -- What `check_settings` says, of the checks that it made.
+use Rattle.std.proofs.Common.{Result, Ok, Err}
 use mathlib.Core.Path.{◌≡◌, refl, ap, sym, ◌∙◌}
 use mathlib.Core.List.{List}
 use Prim.Native.Nat.{ℕ}
@@ -9,8 +10,6 @@ use Rattle.memory.specs.declared.Fault.{Fault}
 use Rattle.memory.specs.Reading.{done, ◌>>=◌, check, given, refused, run_from}
 use Rattle.memory.proofs.ReadBounds.{Reads, implies, bind, check-reads}
 use Rattle.settings.specs.declared.Settings.{Settings}
-use Rattle.settings.specs.declared.SettingsCheck.{SettingsCheck}
-use Rattle.settings.specs.declared.SettingsCheck.TheVariants.{Passed, Refused}
 use Rattle.settings.specs.Good.{good, check_settings}
 use Rattle.settings.specs.Answers.{settings_checked}
 
@@ -39,10 +38,10 @@ given-passing σ n m e = by (good σ) σ.linear refl refl
     by true false g l = let q : ◌≡◌ {A = ℕ} 0 1 = cc in absurd (omega arith)
     by false l g _ = let q : ◌≡◌ {A = ℕ} 0 1 = cc in absurd (omega arith)
 
-module _ (σ : Settings) (r : SettingsCheck) (e : (n : ℕ) (m : List ℕ) → settings_checked n r ≡ run_from n m (check_settings σ)) (n : ℕ)
+module _ (σ : Settings) (r : Result (Unit {0}) Fault) (e : (n : ℕ) (m : List ℕ) → settings_checked n r ≡ run_from n m (check_settings σ)) (n : ℕ)
     (m : List ℕ) where
-  pub settings-refuse : {x : Fault} → r ≡ Refused x → run_from n m (check_settings σ) ≡ refused x
+  pub settings-refuse : {x : Fault} → r ≡ Err x → run_from n m (check_settings σ) ≡ refused x
   settings-refuse h = sym (e n m) ∙ ap (settings_checked n) h
 
-  pub settings-pass : r ≡ Passed → run_from n m (check_settings σ) ≡ given n tt
+  pub settings-pass : r ≡ (Ok tt) → run_from n m (check_settings σ) ≡ given n tt
   settings-pass h = sym (e n m) ∙ ap (settings_checked n) h

@@ -19,6 +19,10 @@ interlace_number Video = 2
 abbrev pub interlace_of : ℕ → Interlace
 interlace_of n = when eqb n 0 then Progressive else when eqb n 1 then RepeatField else Video
 
+-- edition 0 Am8052 1 Z8052; past 1 there is none, and who reads the number refuses it
+abbrev pub edition_of : ℕ → Edition
+edition_of n = when eqb n 0 then Am8052 else Z8052
+
 -- "VSW and VSD 0..63; VAL and VTOT 0..4095; HSYNC 0..255; HSD 0..511; HTC and HTD 0..1023"
 abbrev pub in_range : Settings → Bool
 in_range σ =

@@ -2,7 +2,7 @@
 // The settings of a desk, and the settings sheet: timing, lines for rows, clocks and invoking codes.
 ghost use Rattle.std.specs.Prelude.{◌≡◌, List, ℕ, ◌-◌, ◌*◌, ◌≤◌};
 ghost use Rattle.memory.specs.Reading.{run_from};
-ghost use Rattle.settings.specs.Good.{interlace_of, good, in_range, shown_columns, in_order, fits_fields, fits_mode, fits_mask, fits_display, fits_edition, check_settings, Ordered};
+ghost use Rattle.settings.specs.Good.{interlace_of, edition_of, good, in_range, shown_columns, in_order, fits_fields, fits_mode, fits_mask, fits_display, fits_edition, check_settings, Ordered};
 ghost use Rattle.settings.specs.Timing.{half_lines, parity, added, timing, lines_for_rows, clocks, invoking_codes};
 ghost use Rattle.settings.specs.Sheet.{sheet_of, sheet_call};
 ghost use Rattle.settings.specs.AfterEnable.{field_at, parts_of};
@@ -18,11 +18,36 @@ pub enum Interlace {
     Video,
 }
 
+// The interlace mode of document 01's number.
+impl From<u32> for Interlace {
+    ghost from_gives = { λ number mode. mode ≡ interlace_of number };
+
+    fn from(number: u32) -> Interlace {
+        match number {
+            0 => Interlace::Progressive,
+            1 => Interlace::RepeatField,
+            _ => Interlace::Video,
+        }
+    }
+}
+
 // The timing edition: AMD's part or Zilog's.
 #[derive(Clone, Copy)]
 pub enum Edition {
     Am8052,
     Z8052,
+}
+
+// The edition of the number that the calls in C have for it.
+impl From<u32> for Edition {
+    ghost from_gives = { λ number edition. edition ≡ edition_of number };
+
+    fn from(number: u32) -> Edition {
+        match number {
+            0 => Edition::Am8052,
+            _ => Edition::Z8052,
+        }
+    }
 }
 
 // The two fields of an interlaced picture.
@@ -91,28 +116,14 @@ pub struct Sheet {
     pub invoking: u16,
 }
 
-// The settings sheet, or that the settings are refused.
-#[derive(Clone, Copy)]
-pub enum SheetAnswer {
-    Given(Sheet),
-    Refused(Refusal),
-}
-
-// That the settings pass the checks of a call that draws, or the refusal.
-#[derive(Clone, Copy)]
-pub enum SettingsCheck {
-    Passed,
-    Refused(Fault),
-}
-
 // The settings sheet, or refusal 2.
-pub fn settings_sheet(settings: Settings) -> SheetAnswer
+pub fn settings_sheet(settings: Settings) -> Result<Sheet, Refusal>
     ensures { result ≡ sheet_call settings }
 {
     if is_good(settings) {
-        SheetAnswer::Given(sheet_of(settings))
+        Ok(sheet_of(settings))
     } else {
-        SheetAnswer::Refused(memory::refusal_of(0, memory::fault_of(2)))
+        memory::refused(2)
     }
 }
 
@@ -124,17 +135,17 @@ pub fn field_timing(sheet: Sheet, n: u32) -> Timing
 }
 
 // The checks on settings that a start, a row, an effect and a shift call begin with: 2, then 17.
-pub fn check_settings(settings: Settings) -> SettingsCheck
+pub fn check_settings(settings: Settings) -> Result<(), Fault>
     ensures { (n : ℕ) (m : List ℕ) → settings_checked n result ≡ run_from n m (check_settings settings) }
 {
     if is_good(settings) {
         if settings.linear {
-            SettingsCheck::Passed
+            Ok(())
         } else {
-            SettingsCheck::Refused(memory::fault_of(17))
+            Err(memory::fault_of(17))
         }
     } else {
-        SettingsCheck::Refused(memory::fault_of(2))
+        Err(memory::fault_of(2))
     }
 }
 
@@ -150,7 +161,7 @@ pub fn is_good(settings: Settings) -> bool
 pub fn lines_for_rows(settings: Settings) -> u16
     ensures { result ≡ lines_for_rows settings }
 {
-    let lines = above(settings.vsd, settings.val);
+    let lines = settings.val.saturating_sub(settings.vsd);
     let interlace = settings.interlace;
     match interlace {
         Interlace::Progressive => lines,
@@ -163,14 +174,7 @@ pub fn lines_for_rows(settings: Settings) -> u16
 pub fn shown_columns(settings: Settings) -> u16
     ensures { result ≡ shown_columns settings }
 {
-    above(settings.hsd, settings.htd)
-}
-
-// How far `high` is above `low`: 0 where it is below.
-fn above(low: u16, high: u16) -> u16
-    ensures { result ≡ high - low }
-{
-    if low < high { high - low } else { 0 }
+    settings.htd.saturating_sub(settings.hsd)
 }
 
 fn in_range(s: Settings) -> bool
@@ -195,20 +199,6 @@ fn in_order(s: Settings) -> bool
         & (s.hsd < s.htd)
         & (s.htd <= s.htc)
         & (shown_columns(s) <= 132)
-}
-
-// The interlace mode of document 01's number.
-pub fn interlace_of(number: u32) -> Interlace
-    ensures { result ≡ interlace_of number }
-{
-    if number == 0 {
-        return Interlace::Progressive;
-    }
-    if number == 1 {
-        Interlace::RepeatField
-    } else {
-        Interlace::Video
-    }
 }
 
 fn fits_mode(s: Settings) -> bool

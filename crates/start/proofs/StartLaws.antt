@@ -1,22 +1,30 @@
 -- The laws by which a proof follows a start.
+use Rattle.std.proofs.Common.{Option, Result, Ok, Err, refl}
 use mathlib.Core.Path.{◌≡◌, ap, ◌∙◌}
 use mathlib.Core.Bool.{Bool, true, false, not, ◌&&◌}
 use mathlib.Core.List.{List}
 use Prim.Native.Nat.{ℕ, ◌+◌}
 use borrow.Author.Tests.{eq-eqb, ne_eqb}
 use Rattle.memory.specs.declared.Fault.{Fault}
-use Rattle.memory.specs.Reading.{done, fault, ◌>>◌, check, given, refused, run_from, run}
+use Rattle.memory.specs.Reading.{done, fault, ◌>>◌, check, given, refused, run_from, run, told_in}
 use Rattle.memory.proofs.Laws.{check-passed, check-failed, bind-given, bind-refused, step_given, step-refused, run-done}
 use Rattle.settings.specs.declared.PointerWords.{PointerWords}
 use Rattle.settings.specs.declared.Settings.{Settings}
 use Rattle.settings.specs.Good.{check_settings}
 use Rattle.blocks.specs.declared.MainBlock.{MainBlock}
-use Rattle.windows.specs.declared.WindowInHand.{WindowInHand}
 use Rattle.blocks.specs.Main.{main_block_at}
 use Rattle.windows.specs.Window.{first_window}
+use Rattle.windows.specs.declared.Window.{Window}
 use Rattle.state.specs.State.{state_of}
+use Rattle.start.specs.declared.Started.{Started}
 use Rattle.start.specs.Top.{registered, enabled, of_window, top_block}
-use Rattle.start.specs.Start.{first_fields, window_start, main_start, start_from}
+use Rattle.start.specs.Start.{first_fields, window_start, main_start, start_from, started}
+use Rattle.start.specs.Answers.{start_read}
+
+-- a start is told as its reading's outcome is
+pub told-started : (r : Result Started Fault) → told_in 0 r ≡ started (start_read r)
+told-started (Ok s) = refl
+told-started (Err x) = refl
 
 module _ (n : ℕ) (m : List ℕ) (latch : ℕ) (σ : Settings) (main : MainBlock) where
   pub window-refused : {x : Fault} → run m (first_window σ.linear (registered σ.linear σ.tow)) ≡ refused x
@@ -24,7 +32,7 @@ module _ (n : ℕ) (m : List ℕ) (latch : ℕ) (σ : Settings) (main : MainBloc
   unfolding window_start
   window-refused e = step-refused n m _ _ e
 
-  pub window-started : {i : ℕ} {w : WindowInHand} → run m (first_window σ.linear (registered σ.linear σ.tow)) ≡ given i w
+  pub window-started : {i : ℕ} {w : Option Window} → run m (first_window σ.linear (registered σ.linear σ.tow)) ≡ given i w
       → run_from n m (window_start latch σ main) ≡ given (n + i) (state_of latch (first_fields σ main w))
   unfolding window_start
   window-started e = step_given n m _ _ e ∙ run-done _ _ _

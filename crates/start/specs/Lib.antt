@@ -1,2 +1,3 @@
 pub mod Top
 pub mod Start
+pub mod Answers

@@ -5,13 +5,14 @@ ghost use Rattle.memory.specs.Word.{bit};
 ghost use Rattle.memory.specs.Reading.{run, run_from};
 ghost use Rattle.blocks.specs.Answers.{main_read};
 ghost use Rattle.start.specs.Top.{top_block};
-ghost use Rattle.start.specs.Start.{first_format, first_fields, window_start, main_start, started, start_call};
+ghost use Rattle.start.specs.Start.{first_format, first_fields, window_start, main_start, start_from, started, start_call};
+ghost use Rattle.start.specs.Answers.{start_read};
 
-use blocks::{MainBlock, MainRead, RowFormat};
-use memory::Refusal;
-use settings::{PointerWords, Settings, SettingsCheck};
+use blocks::{MainBlock, RowFormat};
+use memory::{Fault, Refusal};
+use settings::{PointerWords, Settings};
 use state::{Fields, State};
-use windows::{WindowInHand, WindowRead};
+use windows::{Window, WindowRead};
 
 // The answer of an accepted start: the words read, and the first state.
 #[derive(Clone, Copy)]
@@ -20,40 +21,26 @@ pub struct Started {
     pub state: State,
 }
 
-// The first state of a frame, or the refusal of its start, which gives none.
-#[derive(Clone, Copy)]
-pub enum StartAnswer {
-    Accepted(Started),
-    Refused(Refusal),
-}
-
 // The start of a frame from a latch: its first state and the words read, or refusal 2, 17, 6, 7, 14 or 8.
-pub fn start(settings: Settings, mem: &[u16], latch: u16) -> StartAnswer
+pub fn start(settings: Settings, mem: &[u16], latch: u16) -> Result<Started, Refusal>
     ensures { result ≡ start_call latch settings mem.now }
 {
-    match settings::check_settings(settings) {
-        SettingsCheck::Refused(fault) => StartAnswer::Refused(memory::refusal_of(0, fault)),
-        SettingsCheck::Passed => start_main(settings, mem, latch),
-    }
+    memory::told_in(0, read_start(settings, mem, latch))
 }
 
 // The main block that a top register leads to, or refusal 6, 7 or 14.
-pub fn top_block(mem: &[u16], linear: bool, top: PointerWords) -> MainRead
+pub fn top_block(mem: &[u16], linear: bool, top: PointerWords) -> Result<MainBlock, Fault>
     ensures { main_read result ≡ run mem.now (top_block linear top) }
 {
     let p = memory::pointer_of(linear, 0, top.first, top.second);
     if p.address == 0 {
-        return MainRead::Refused(memory::fault_of(6));
+        return Err(memory::fault_of(6));
     }
-    match blocks::main_block(mem, linear, p) {
-        MainRead::Refused(fault) => MainRead::Refused(fault),
-        MainRead::Read(main) => {
-            if scrolls_window(main.m4) {
-                MainRead::Refused(memory::fault_of(14))
-            } else {
-                MainRead::Read(main)
-            }
-        }
+    let main = blocks::main_block(mem, linear, p)?;
+    if scrolls_window(main.m4) {
+        Err(memory::fault_of(14))
+    } else {
+        Ok(main)
     }
 }
 
@@ -77,35 +64,49 @@ fn scrolls_window(m4: u16) -> bool
 }
 
 // The rest of a start, once its settings are checked: the main block.
-pub fn start_main(settings: Settings, mem: &[u16], latch: u16) -> StartAnswer
+pub fn start_main(settings: Settings, mem: &[u16], latch: u16) -> Result<Started, Refusal>
     ensures { result ≡ started (run mem.now (main_start latch settings)) }
 {
-    let top = settings.top;
-    match top_block(mem, settings.linear, top) {
-        MainRead::Refused(fault) => StartAnswer::Refused(memory::refusal_of(0, fault)),
-        MainRead::Read(main) => start_window(settings, mem, latch, main),
-    }
+    memory::told_in(0, read_main(settings, mem, latch))
 }
 
-// The rest of a start, once its main block is read: the first window.
-fn start_window(settings: Settings, mem: &[u16], latch: u16, main: MainBlock) -> StartAnswer
-    ensures { result ≡ started (run_from 7 mem.now (window_start latch settings main)) }
+// The checks on settings, then the main block.
+fn read_start(settings: Settings, mem: &[u16], latch: u16) -> Result<Started, Fault>
+    ensures { start_read result ≡ run mem.now (start_from latch settings) }
+{
+    settings::check_settings(settings)?;
+    read_main(settings, mem, latch)
+}
+
+// The main block that TOP leads to, then the first window.
+fn read_main(settings: Settings, mem: &[u16], latch: u16) -> Result<Started, Fault>
+    ensures { start_read result ≡ run mem.now (main_start latch settings) }
+{
+    let top = settings.top;
+    let main = top_block(mem, settings.linear, top)?;
+    read_window(settings, mem, latch, main)
+}
+
+// The first window, that TOW leads to; the first state.
+fn read_window(
+    settings: Settings,
+    mem: &[u16],
+    latch: u16,
+    main: MainBlock,
+) -> Result<Started, Fault>
+    ensures { start_read result ≡ run_from 7 mem.now (window_start latch settings main) }
 {
     let tow = memory::pointer_of(settings.linear, 0, settings.tow.first, settings.tow.second);
-    match windows::first_window(mem, settings.linear, tow) {
-        WindowRead::Refused(fault) => StartAnswer::Refused(memory::refusal_of(0, fault)),
-        WindowRead::Read { window, words } => {
-            let fields = first_fields(settings, main, window);
-            let state = State { latch, fields };
-            StartAnswer::Accepted(Started {
-                words: 7 + words,
-                state,
-            })
-        }
-    }
+    let WindowRead { window, words } = windows::first_window(mem, settings.linear, tow)?;
+    let fields = first_fields(settings, main, window);
+    let state = State { latch, fields };
+    Ok(Started {
+        words: 7 + words,
+        state,
+    })
 }
 
-fn first_fields(settings: Settings, main: MainBlock, window: WindowInHand) -> Fields
+fn first_fields(settings: Settings, main: MainBlock, window: Option<Window>) -> Fields
     ensures { result ≡ first_fields settings main window }
 {
     let cursor = main.cursor;

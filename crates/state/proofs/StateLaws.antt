@@ -1,5 +1,6 @@
 -- What a state in range tells: its window is in order, its lines are within 4095, its row below 4095 where a line is left, and a row has
 -- a scan line.
+use Rattle.std.proofs.Common.{Option, Some, None}
 use mathlib.Core.Path.{◌≡◌}
 use mathlib.Core.Bool.{true, ◌&&◌}
 use Prim.Native.Nat.{◌+◌, ◌≤◌, ◌<◌}
@@ -8,8 +9,6 @@ use lib.Dec.{leb}
 use borrow.Author.Tests.{leb-true}
 use Rattle.memory.proofs.ReadBounds.{both}
 use Rattle.windows.specs.declared.Window.{Window}
-use Rattle.windows.specs.declared.WindowInHand.{WindowInHand}
-use Rattle.windows.specs.declared.WindowInHand.TheVariants.{Absent, Present}
 use Rattle.windows.specs.Window.{in_order}
 use Rattle.windows.specs.Answers.{Numbered}
 use Rattle.windows.proofs.WindowBounds.{Placed, in_order_lem}
@@ -17,15 +16,15 @@ use Rattle.state.specs.declared.Fields.{Fields}
 use Rattle.state.specs.State.{format_in_range, pointer_in_range, window_in_range, in_range}
 
 -- what the first two clauses of its check tell of a window in hand
-ordered : (w : Window) → window_in_range (Present w) ≡ true → (in_order w.block ≡ true) × (leb w.block.number w.block.top ≡ true)
+ordered : (w : Window) → window_in_range (Some w) ≡ true → (in_order w.block ≡ true) × (leb w.block.number w.block.top ≡ true)
 unfolding window_in_range
 ordered w h = both (in_order w.block) _ (both (in_order w.block && leb w.block.number w.block.top) _ (both _ (pointer_in_range w.block.link) h).0).0
 
 -- a window of a state in range is in order, and its number at most its first row
-pub window_placed : (w : WindowInHand) → window_in_range w ≡ true → Placed w
+pub window_placed : (w : Option Window) → window_in_range w ≡ true → Placed w
 unfolding window_in_range
-window_placed Absent h = tt
-window_placed (Present w) h = (in_order_lem w.block (ordered w h).0, leb-true w.block.number w.block.top (ordered w h).1)
+window_placed None h = tt
+window_placed (Some w) h = (in_order_lem w.block (ordered w h).0, leb-true w.block.number w.block.top (ordered w h).1)
 
 pub placed : (f : Fields) → in_range f ≡ true → Placed f.window
 unfolding in_range
@@ -34,9 +33,9 @@ placed f h =
     (both (leb (f.row + f.left) 4095 && format_in_range f.format && pointer_in_range f.next) (window_in_range f.window) h).1
 
 -- so it is at most its last row
-at-most-last : (w : WindowInHand) → Placed w → Numbered w
-at-most-last Absent h = tt
-at-most-last (Present w) h = omega arith
+at-most-last : (w : Option Window) → Placed w → Numbered w
+at-most-last None h = tt
+at-most-last (Some w) h = omega arith
 
 pub numbered : (f : Fields) → in_range f ≡ true → Numbered f.window
 numbered f h = at-most-last f.window (placed f h)

@@ -1,11 +1,10 @@
 -- Document 01, "Blocks": the state, and refusal 3, a state out of range.
-use Rattle.std.specs.Prelude.{ℕ, ◌+◌, Bool, true, ◌&&◌, ◌||◌, not, leb, eqb}
+use Rattle.std.specs.Prelude.{ℕ, ◌+◌, Bool, true, ◌&&◌, ◌||◌, not, leb, eqb, Option, Some, None}
 use Rattle.memory.specs.declared.Pointer.{Pointer}
 use Rattle.memory.specs.Address.{null, is_address}
 use Rattle.blocks.specs.declared.RowFormat.{RowFormat}
-use Rattle.windows.specs.declared.WindowInHand.{WindowInHand}
-use Rattle.windows.specs.declared.WindowInHand.TheVariants.{Absent, Present}
 use Rattle.windows.specs.Window.{in_order}
+use Rattle.windows.specs.declared.Window.{Window}
 use Rattle.state.specs.declared.Fields.{Fields}
 use Rattle.state.specs.declared.State.{State}
 
@@ -24,9 +23,9 @@ abbrev pub pointer_in_range : Pointer → Bool
 pointer_in_range p = is_address p.address && is_address p.from && (not (null p) || eqb p.from 0)
 
 -- "window rows or columns out of order or range"; "a number above its window's first row, as rows rise" (02)
-unfoldable pub window_in_range : WindowInHand → Bool
-window_in_range Absent = true
-window_in_range (Present w) =
+unfoldable pub window_in_range : Option Window → Bool
+window_in_range None = true
+window_in_range (Some w) =
     in_order w.block && leb w.block.number w.block.top && pointer_in_range w.rows && pointer_in_range w.block.link
 
 -- Refusal 3: "state out of range: row + lines left > 4095, .."

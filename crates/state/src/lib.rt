@@ -5,11 +5,11 @@ ghost use Rattle.state.specs.State.{format_in_range, pointer_in_range, window_in
 
 use blocks::{Cursor, FillMode, RowFormat};
 use memory::Pointer;
-use windows::WindowInHand;
+use windows::Window;
 
 // The state's fields other than the latch: row number, lines left, cursor, fill, format (scan lines, row attributes, CURS,
 // CURE), next row block and the window in hand.
-#[derive(Clone, Copy)]
+#[derive(Clone, Copy, PartialEq, Eq)]
 pub struct Fields {
     pub row: u32,
     pub left: u16,
@@ -17,11 +17,11 @@ pub struct Fields {
     pub fill: FillMode,
     pub format: RowFormat,
     pub next: Pointer,
-    pub window: WindowInHand,
+    pub window: Option<Window>,
 }
 
 // The state between two rows: the latched attribute, and the other fields.
-#[derive(Clone, Copy)]
+#[derive(Clone, Copy, PartialEq, Eq)]
 pub struct State {
     pub latch: u16,
     pub fields: Fields,
@@ -53,12 +53,12 @@ fn pointer_in_range(address: u32, from: u32) -> bool
     memory::is_address(address) & memory::is_address(from) & ((address != 0) | (from == 0))
 }
 
-fn window_in_range(in_hand: WindowInHand) -> bool
+fn window_in_range(in_hand: Option<Window>) -> bool
     ensures { result ≡ window_in_range in_hand }
 {
     match in_hand {
-        WindowInHand::Absent => true,
-        WindowInHand::Present(w) => {
+        None => true,
+        Some(w) => {
             let block = w.block;
             windows::in_order(block)
                 & (block.number <= block.top)

@@ -1,4 +1,5 @@
 -- An effect that is read from numbers refuses with a number of the effect call's list only.
+use Rattle.std.proofs.Common.{Option, Some, None}
 use mathlib.Core.Path.{◌≡◌, refl}
 use mathlib.Core.Bool.{Bool, true, false, ◌&&◌, ◌||◌, not}
 use mathlib.Core.List.{List, ◌∷◌}
@@ -16,8 +17,6 @@ use Rattle.joining.specs.Join.{part_for, apply_part, apply}
 use Rattle.numbers.specs.Places.{within}
 use Rattle.numbers.proofs.PlaceLaws.{all-within}
 use Rattle.numbers.specs.Decode.{yes}
-use Rattle.effects.specs.declared.decode.EffectIn.{EffectIn}
-use Rattle.effects.specs.declared.decode.EffectIn.TheVariants.{Fit, Unfit}
 use Rattle.effects.specs.EffectNumbers.{effect_limits, part_at, effect_at, of_effect, part_written, effect_written, effect_in}
 use Rattle.effects.specs.AfterEffect.{after_apply}
 use Rattle.refusals.specs.Refusals.{effect_numbers, has}
@@ -70,9 +69,9 @@ part-listed number row address from sets word l h = by (eqb number 0) h
         let e = (both _ (eqb sets 0) (both _ (eqb word 0) h).0).0 in
         listed number l (both (of_effect number) (eqb number 7 || eqb from 0) e).0
 
-abbrev pub BothListed : EffectIn → Type 0
-BothListed (Fit e) = Listed e.clear × Listed e.set
-BothListed Unfit = Unit
+abbrev pub BothListed : Option Effect → Type 0
+BothListed (Some e) = Listed e.clear × Listed e.set
+BothListed None = Unit
 
 pub effect-listed : (xs : List ℕ) → BothListed (effect_in xs)
 unfolding effect_in effect_written effect_at

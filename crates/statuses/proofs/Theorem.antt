@@ -1,4 +1,5 @@
 -- Each call's status: 255 for slices that are none, else what its answer tells.
+use Rattle.std.proofs.Common.{Option, Some, None}
 use mathlib.Core.Path.{refl}
 use mathlib.Core.Bool.{◌&&◌}
 use mathlib.Core.List.{List, [], ◌∷◌}
@@ -24,15 +25,9 @@ use Rattle.mail_reader.specs.Read.{read_mail}
 use Rattle.mail_answers.specs.AfterMail.{Lent}
 use Rattle.writer.specs.declared.Span.{Span}
 use Rattle.writer.specs.Writer.{write_word}
-use Rattle.numbers.specs.declared.decode.SettingsIn.{SettingsIn}
-use Rattle.numbers.specs.declared.decode.SettingsIn.TheVariants as Settings-in
-use Rattle.numbers.specs.declared.decode.StateIn.{StateIn}
-use Rattle.numbers.specs.declared.decode.StateIn.TheVariants as State-in
 use Rattle.numbers.specs.Decode.{settings_at, settings_in, state_in}
 use Rattle.answers.specs.AfterCall.{Answered, Stated}
 use Rattle.listed_answers.specs.AfterListed.{StatedListed, DrawnListed}
-use Rattle.effects.specs.declared.decode.EffectIn.{EffectIn}
-use Rattle.effects.specs.declared.decode.EffectIn.TheVariants as Effect-in
 use Rattle.effects.specs.EffectNumbers.{effect_in}
 use Rattle.thagaduvin.specs.Calls.{sheet_from, host_sheet, start_from, host_start, row_from, row_with, host_row, latch_from, host_latch}
 use Rattle.thagaduvin_effect.specs.EffectCalls.{effect_from, effect_with, host_effect, join_from, join_with, host_join, apply_from, host_apply}
@@ -66,9 +61,9 @@ unfolding host_sheet
 sheet-status settings answer =
     if-cases (λ (x : Answered). Status sheet_numbers x.status) (eqb (length answer) 21) (λ _. by (settings_in settings)) (λ _. refl)
   where
-    by : (s : SettingsIn) → Status sheet_numbers (sheet_from answer s).status
-    by (Settings-in.Fit σ) = of-sheet sheet_numbers answer (sheet_call σ) (sheet-told σ)
-    by Settings-in.Unfit = refl
+    by : (s : Option Settings) → Status sheet_numbers (sheet_from answer s).status
+    by (Some σ) = of-sheet sheet_numbers answer (sheet_call σ) (sheet-told σ)
+    by None = refl
 
 start-status : (settings m : List ℕ) (latch : ℕ) (state list answer : List ℕ) → Status start_listed_numbers (host_start settings m latch state list answer).status
 unfolding host_start
@@ -76,74 +71,74 @@ start-status settings m latch state list answer =
     if-cases (λ (x : StatedListed). Status start_listed_numbers x.status) (eqb (length state) 23 && eqb (length answer) 4)
     (λ _. by (settings_in settings)) (λ _. refl)
   where
-    by : (s : SettingsIn) → Status start_listed_numbers (start_from m latch state list answer s).status
-    by (Settings-in.Fit σ) = of-start start_listed_numbers state answer (start_listed latch σ m list).answer (start-listed-told latch σ m list)
-    by Settings-in.Unfit = refl
+    by : (s : Option Settings) → Status start_listed_numbers (start_from m latch state list answer s).status
+    by (Some σ) = of-start start_listed_numbers state answer (start_listed latch σ m list).answer (start-listed-told latch σ m list)
+    by None = refl
 
 row-status : (settings m state cells list answer : List ℕ) → Status row_listed_numbers (host_row settings m state cells list answer).status
 unfolding host_row
 row-status settings m state cells list answer =
     if-cases (λ (x : DrawnListed). Status row_listed_numbers x.status) (eqb (length answer) 8) (λ _. by (settings_in settings)) (λ _. refl)
   where
-    from : (σ : Settings) (s : StateIn) → Status row_listed_numbers (row_from σ m state cells list answer s).status
-    from σ (State-in.Fit s) =
+    from : (σ : Settings) (s : Option State) → Status row_listed_numbers (row_from σ m state cells list answer s).status
+    from σ (Some s) =
         of_row_lem row_listed_numbers state answer (row_listed σ m s cells list).buffer (row_listed σ m s cells list).answer (row-listed-told σ m s cells list)
-    from σ State-in.Unfit = refl
+    from σ None = refl
 
-    by : (s : SettingsIn) → Status row_listed_numbers (row_with m state cells list answer s).status
-    by (Settings-in.Fit σ) = from σ (state_in state)
-    by Settings-in.Unfit = refl
+    by : (s : Option Settings) → Status row_listed_numbers (row_with m state cells list answer s).status
+    by (Some σ) = from σ (state_in state)
+    by None = refl
 
 latch-status : (latch : ℕ) (state answer : List ℕ) → Status [] (host_latch latch state answer).status
 unfolding host_latch
 latch-status latch state answer = if-cases (λ (x : Answered). Status [] x.status) (eqb (length answer) 4) (λ _. by (state_in state)) (λ _. refl)
   where
-    by : (s : StateIn) → Status [] (latch_from latch answer s).status
-    by (State-in.Fit s) = refl
-    by State-in.Unfit = refl
+    by : (s : Option State) → Status [] (latch_from latch answer s).status
+    by (Some s) = refl
+    by None = refl
 
 effect-status : (settings m state effect : List ℕ) → Status [] (host_effect settings m state effect).status
 unfolding host_effect
 effect-status settings m state effect =
     if-cases (λ (x : Stated). Status [] x.status) (eqb (length effect) 12) (λ _. by (settings_in settings)) (λ _. refl)
   where
-    from : (σ : Settings) (s : StateIn) → Status [] (effect_from σ m state effect s).status
-    from σ (State-in.Fit s) = refl
-    from σ State-in.Unfit = refl
+    from : (σ : Settings) (s : Option State) → Status [] (effect_from σ m state effect s).status
+    from σ (Some s) = refl
+    from σ None = refl
 
-    by : (s : SettingsIn) → Status [] (effect_with m state effect s).status
-    by (Settings-in.Fit σ) = from σ (state_in state)
-    by Settings-in.Unfit = refl
+    by : (s : Option Settings) → Status [] (effect_with m state effect s).status
+    by (Some σ) = from σ (state_in state)
+    by None = refl
 
 join-status : (first second joined : List ℕ) → Status [] (host_join first second joined).status
 unfolding host_join
 join-status first second joined = if-cases (λ (x : Answered). Status [] x.status) (eqb (length joined) 12) (λ _. by (effect_in first)) (λ _. refl)
   where
-    from : (d : Effect) (e : EffectIn) → Status [] (join_from joined d e).status
-    from d (Effect-in.Fit e) = refl
-    from d Effect-in.Unfit = refl
+    from : (d : Effect) (e : Option Effect) → Status [] (join_from joined d e).status
+    from d (Some e) = refl
+    from d None = refl
 
-    by : (d : EffectIn) → Status [] (join_with second joined d).status
-    by (Effect-in.Fit d) = from d (effect_in second)
-    by Effect-in.Unfit = refl
+    by : (d : Option Effect) → Status [] (join_with second joined d).status
+    by (Some d) = from d (effect_in second)
+    by None = refl
 
 apply-status : (effect : List ℕ) (latch : ℕ) (answer : List ℕ) → Status effect_numbers (host_apply effect latch answer).status
 unfolding host_apply
 apply-status effect latch answer =
     if-cases (λ (x : Answered). Status effect_numbers x.status) (eqb (length answer) 4) (λ _. by (effect_in effect) (effect-listed effect)) (λ _. refl)
   where
-    by : (e : EffectIn) → BothListed e → Status effect_numbers (apply_from latch answer e).status
-    by (Effect-in.Fit e) h = applied e latch answer h
-    by Effect-in.Unfit h = refl
+    by : (e : Option Effect) → BothListed e → Status effect_numbers (apply_from latch answer e).status
+    by (Some e) h = applied e latch answer h
+    by None h = refl
 
 write-mail-status : (settings cells text answer : List ℕ) → Status write_mail_numbers (host_write_mail settings cells text answer).status
 unfolding host_write_mail
 write-mail-status settings cells text answer =
     if-cases (λ (x : Lent). Status write_mail_numbers x.status) (eqb (length answer) 1) (λ _. by (settings_in settings)) (λ _. refl)
   where
-    by : (s : SettingsIn) → Status write_mail_numbers (write_from cells text answer s).status
-    by (Settings-in.Fit σ) = of-written write_mail_numbers answer (write_mail σ cells text).buffer (write_mail σ cells text).answer (write-mail-told σ cells text)
-    by Settings-in.Unfit = refl
+    by : (s : Option Settings) → Status write_mail_numbers (write_from cells text answer s).status
+    by (Some σ) = of-written write_mail_numbers answer (write_mail σ cells text).buffer (write_mail σ cells text).answer (write-mail-told σ cells text)
+    by None = refl
 
 read-mail-status : (text cells answer : List ℕ) → Status read_mail_numbers (host_read_mail text cells answer).status
 unfolding host_read_mail
@@ -166,10 +161,10 @@ unfolding host_shift
 shift-status settings m soft scroll answer =
     if-cases (λ (x : Stated). Status shift_numbers x.status) (eqb (length scroll) 3 && eqb (length answer) 5) (λ _. by (settings_in settings)) (λ _. refl)
   where
-    by : (s : SettingsIn) → Status shift_numbers (shift_from m soft scroll answer s).status
-    by (Settings-in.Fit σ) =
+    by : (s : Option Settings) → Status shift_numbers (shift_from m soft scroll answer s).status
+    by (Some σ) =
         of_shift_lem shift_numbers scroll answer (shift_call σ m soft (scroll_of scroll)) (shift-told σ m soft (scroll_of scroll))
-    by Settings-in.Unfit = refl
+    by None = refl
 
 beside-status : (settings m : List ℕ) (shift : ℤ) (soft : PointerWords) (latch : ℕ) (state cells list answer : List ℕ)
     → Status beside_numbers (host_beside settings m shift soft latch state cells list answer).status
@@ -185,13 +180,13 @@ beside-status settings m shift soft latch state cells list answer =
         let x = beside_listed σ m shift soft latch s cells list in
         of-beside beside_numbers x.buffer x.list answer x.answer (beside-told σ m shift soft latch s cells list)
 
-    from : (σ : Settings) (s : StateIn) → Right (below_state σ m shift soft latch cells list answer s)
-    from σ (State-in.Fit s) = of σ s
-    from σ State-in.Unfit = refl
+    from : (σ : Settings) (s : Option State) → Right (below_state σ m shift soft latch cells list answer s)
+    from σ (Some s) = of σ s
+    from σ None = refl
 
-    by : (s : SettingsIn) → Right (beside_with m shift soft latch state cells list answer s)
-    by (Settings-in.Fit σ) = if-cases Right (lt_z (pos 0) shift) (λ _. from σ (state_in state)) (λ _. of σ no_state)
-    by Settings-in.Unfit = refl
+    by : (s : Option Settings) → Right (beside_with m shift soft latch state cells list answer s)
+    by (Some σ) = if-cases Right (lt_z (pos 0) shift) (λ _. from σ (state_in state)) (λ _. of σ no_state)
+    by None = refl
 
 line-status : (shift : ℤ) (above : ℕ) (heights : List ℕ) (rows y : ℕ) (answer : List ℕ) → Status [] (host_line shift above heights rows y answer).status
 unfolding host_line
@@ -213,12 +208,12 @@ mend-status : (settings m : List ℕ) (latch : ℕ) (answer : List ℕ) → Word
 unfolding host_mend settings_in
 mend-status settings m latch answer w =
     if-cases Right (eqb (length answer) 8)
-    (λ _. if-cases (λ (s : SettingsIn). Right (mend_with settings m latch answer s)) (eqb (length settings) 18) (λ _. mended) (λ _. refl)) (λ _. refl)
+    (λ _. if-cases (λ (s : Option Settings). Right (mend_with settings m latch answer s)) (eqb (length settings) 18) (λ _. mended) (λ _. refl)) (λ _. refl)
   where
     Right : Left → Type 0
     Right x = Status mend_numbers x.status
 
-    mended : Right (mend_with settings m latch answer (Settings-in.Fit (settings_at settings)))
+    mended : Right (mend_with settings m latch answer (Some (settings_at settings)))
     mended =
         let x = mend_step latch (settings_at settings) m in
         of-mend mend_numbers settings answer x.memory x.answer (mend-told latch (settings_at settings) m w (registers settings))
@@ -228,10 +223,10 @@ unfolding host_convert
 convert-status settings m marks latch answer =
     if-cases (λ (x : Left). Status convert_numbers x.status) (eqb (length answer) 4) (λ _. by (settings_in settings)) (λ _. refl)
   where
-    by : (s : SettingsIn) → Status convert_numbers (convert_with settings m marks latch answer s).status
-    by (Settings-in.Fit σ) =
+    by : (s : Option Settings) → Status convert_numbers (convert_with settings m marks latch answer s).status
+    by (Some σ) =
         let x = convert_call latch σ m marks in of-convert convert_numbers settings x.memory x.answer (convert-told latch σ m marks)
-    by Settings-in.Unfit = refl
+    by None = refl
 
 pub statuses : Statuses
 statuses = record {

@@ -1,4 +1,5 @@
 -- The laws by which a proof follows a sure row whose addresses are noted: what is sure has its words; fill runs; segments on a side.
+use Rattle.std.proofs.Common.{Some, None}
 use mathlib.Core.Path.{◌≡◌, refl, ap, sym, ◌∙◌}
 use mathlib.Core.Bool.{Bool, true, false, ◌&&◌, ◌||◌, not}
 use mathlib.Core.List.{List}
@@ -8,7 +9,6 @@ use lib.ListN.{length, get_or, set}
 use lib.Dec.{ltb, eqb}
 use borrow.Author.Tests.{lt-ltb, le-ltb, ltb-true, eqb-true, not-true}
 use Rattle.memory.specs.Word.{when◌then◌else◌}
-use Rattle.memory.specs.declared.Fetch.TheVariants.{Word, Absent}
 use Rattle.memory.specs.Address.{null}
 use Rattle.memory.specs.Reading.{Reading, done, each, fetch, given}
 use Rattle.memory.specs.Answers.{is_run}
@@ -43,7 +43,7 @@ not-both f t = let z : ◌≡◌ {A = ℕ} 0 1 = cc in absurd (omega arith)
 pub stands_word : (m : List ℕ) (a : ℕ) → stands m a ≡ true → (a / 2 < length m) × (latches (get_or m (a / 2) 0) ≡ true)
 stands_word m a h = let k = turn (ltb (a / 2) (length m)) (get_or m (a / 2) 0) h in (ltb-true (a / 2) (length m) k.0, k.1)
   where
-    turn : (b : Bool) (v : ℕ) → standing (when b then Word v else Absent) ≡ true → (b ≡ true) × (latches v ≡ true)
+    turn : (b : Bool) (v : ℕ) → standing (when b then Some v else None) ≡ true → (b ≡ true) × (latches v ≡ true)
     turn true v h = (refl, h)
     turn false v h = let z : ◌≡◌ {A = ℕ} 0 1 = cc in absurd (omega arith)
 
@@ -129,7 +129,7 @@ module _ (n : ℕ) (m l : List ℕ) (σ : CodeSettings) (fill : FillMode) (end :
   fill-word linear k h s =
       let a = d.pen.list.next.address in
       let w = stands_word m a s in
-      let there : fetch m a ≡ Word (get_or m (a / 2) 0) = rw (lt-ltb (a / 2) (length m) w.0) in
+      let there : fetch m a ≡ Some (get_or m (a / 2) 0) = rw (lt-ltb (a / 2) (length m) w.0) in
       rw (lt-ltb d.pen.column end k, h)
       (noting-word n m l d.pen.list.next _ there ∙ rw (w.1, linear) (noting-done (n + 1) m (set l n a) _))
 

@@ -1,10 +1,8 @@
 -- Is a planned row sure: can no reading of its cells be refused? All words are there that its codes can read; and with the fill flag each
 -- list is that of a segment without codes, its fill word there with bit 15, and the segments leave no cell after them. What the functions
 -- of this crate give, no rules of their own: a row that is not sure may still be accepted.
-use Rattle.std.specs.Prelude.{ℕ, ◌+◌, ◌/◌, Bool, true, false, ◌&&◌, ◌||◌, not, List, [], ◌∷◌, length, eqb}
+use Rattle.std.specs.Prelude.{ℕ, ◌+◌, ◌/◌, Bool, true, false, ◌&&◌, ◌||◌, not, List, [], ◌∷◌, length, eqb, Option, Some, None}
 use Rattle.memory.specs.Word.{when◌then◌else◌}
-use Rattle.memory.specs.declared.Fetch.{Fetch}
-use Rattle.memory.specs.declared.Fetch.TheVariants.{Word, Absent}
 use Rattle.memory.specs.Address.{null}
 use Rattle.memory.specs.Reading.{fetch}
 use Rattle.memory.specs.Answers.{is_run}
@@ -14,9 +12,9 @@ use Rattle.layout.specs.Layout.{total, Overlay, none, over}
 use Rattle.cells.specs.Cells.{code_count}
 
 -- the word at an address is there, with bit 15
-abbrev pub standing : Fetch → Bool
-standing (Word w) = latches w
-standing Absent = false
+abbrev pub standing : Option ℕ → Bool
+standing (Some w) = latches w
+standing None = false
 
 abbrev pub stands : List ℕ → ℕ → Bool
 stands m a = standing (fetch m a)

@@ -8,14 +8,13 @@ ghost use Rattle.sure.specs.Sure.{stands, sure_list, sure_segment, sure_all, sur
 use blocks::{FillMode, Segment, SegmentCount};
 use codes::CodeSettings;
 use layout::OverlayHead;
-use memory::Fetch;
 
 // Can no reading of the cells of a planned row be refused?
 pub fn is_sure(
     mem: &[u16],
     settings: CodeSettings,
     fill: FillMode,
-    overlay: OverlayHead,
+    overlay: Option<OverlayHead>,
     back: &[u16; 75],
     count: SegmentCount,
     window: &[u16; 75],
@@ -23,17 +22,14 @@ pub fn is_sure(
     ensures { result ≡ sure_row settings.hidden fill.flag mem.now (overlay_of true overlay window.now) (segments_of true count back.now) }
 {
     match overlay {
-        OverlayHead::NoOverlay => {
+        None => {
             are_sure(mem, fill.flag, back, count)
                 & fills_row(settings.hidden, fill.flag, back, count)
         }
-        OverlayHead::Over {
-            number: _,
-            first: _,
-            end: _,
-            count: n,
-        } => {
-            !fill.flag & are_sure(mem, fill.flag, back, count) & are_sure(mem, fill.flag, window, n)
+        Some(head) => {
+            !fill.flag
+                & are_sure(mem, fill.flag, back, count)
+                & are_sure(mem, fill.flag, window, head.count)
         }
     }
 }
@@ -47,10 +43,8 @@ fn fills_row(hidden: bool, flag: bool, segments: &[u16; 75], count: SegmentCount
     }
     let n = count.number as usize;
     let mut sum = 0;
-    let mut i = 0;
-    while i < n {
+    for i in 0..n {
         sum += layout::width(hidden, blocks::segment_at(true, count, segments, i));
-        i += 1;
     }
     sum == 132
 }
@@ -60,13 +54,11 @@ fn are_sure(mem: &[u16], flag: bool, segments: &[u16; 75], count: SegmentCount) 
     ensures { result ≡ sure_all flag mem.now (segments_of true count segments.now) }
 {
     let n = count.number as usize;
-    let mut i = 0;
-    while i < n {
+    for i in 0..n {
         let g = blocks::segment_at(true, count, segments, i);
         if !is_sure_segment(mem, flag, g) {
             return false;
         }
-        i += 1;
     }
     true
 }
@@ -103,8 +95,5 @@ fn is_sure_list(mem: &[u16], flag: bool, g: Segment) -> bool
 fn does_stand(mem: &[u16], a: u32) -> bool
     ensures { result ≡ stands mem.now a }
 {
-    match memory::word_at(mem, a) {
-        Fetch::Word(w) => memory::bit_15(w),
-        Fetch::Absent => false,
-    }
+    memory::word_at(mem, a).is_some_and(memory::bit_15)
 }

@@ -16,9 +16,9 @@ ghost use Rattle.noting.specs.Noting.{noted, noting};
 ghost use Rattle.sure.specs.Sure.{stands, sure_segment, sure_all, sure_row};
 
 use blocks::{FillMode, Segment, SegmentCount};
-use codes::{CodeSettings, Pen, Room, Source, pens};
+use codes::{CodeSettings, Pen, Reached, Room, Source, pens};
 use layout::{OverlayHead, Side};
-use noting::Reached;
+use memory::Pointer;
 
 pub mod known; // is a row sure?
 
@@ -37,7 +37,7 @@ pub fn draw_cells(
     mem: &[u16],
     settings: CodeSettings,
     fill: FillMode,
-    overlay: OverlayHead,
+    overlay: Option<OverlayHead>,
     back: &[u16; 75],
     count: SegmentCount,
     window: &[u16; 75],
@@ -54,7 +54,7 @@ pub fn draw_cells(
 {
     let pen = pens::blank(latch);
     match overlay {
-        OverlayHead::NoOverlay => {
+        None => {
             let stretch = Stretch {
                 settings,
                 fill,
@@ -64,14 +64,8 @@ pub fn draw_cells(
             };
             draw_stretch(mem, stretch, back, count, pen, words, cells, list)
         }
-        OverlayHead::Over {
-            number,
-            first,
-            end,
-            count: n,
-        } => draw_around(
-            mem, settings, fill, number, first, end, back, count, window, n, pen, words, cells,
-            list,
+        Some(head) => draw_around(
+            mem, settings, fill, head, back, count, window, pen, words, cells, list,
         ),
     }
 }
@@ -81,30 +75,27 @@ fn draw_around(
     mem: &[u16],
     settings: CodeSettings,
     fill: FillMode,
-    number: u8,
-    first: usize,
-    end: usize,
+    head: OverlayHead,
     back: &[u16; 75],
     count: SegmentCount,
     window: &[u16; 75],
-    n: SegmentCount,
     pen: Pen,
     words: u32,
     cells: &mut [u32],
     list: &mut [u32],
 ) -> Reached
-    requires drawable { Drawable settings.hidden (over number first end (segments_of settings.linear n window.now)) (segments_of settings.linear count back.now) }
+    requires drawable { Drawable settings.hidden (over head.number head.first head.end (segments_of settings.linear head.count window.now)) (segments_of settings.linear count back.now) }
     requires column_value { (pen.column ≡ 0) × (length cells.old ≡ 132) × (words ≤ 1100) × (settings.linear ≡ true) }
-    requires back_value { sure_row settings.hidden fill.flag mem.now (over number first end (segments_of settings.linear n window.now)) (segments_of settings.linear count back.now) ≡ true }
+    requires back_value { sure_row settings.hidden fill.flag mem.now (over head.number head.first head.end (segments_of settings.linear head.count window.now)) (segments_of settings.linear count back.now) ≡ true }
     ensures column_value_2 { (result.pen.column ≡ 132) × (result.words ≤ words + 400000) }
-    ensures cells_value { noting words mem.now list.old (row_cells settings fill (over number first end (segments_of settings.linear n window.now)) (segments_of settings.linear count back.now) (so_far pen cells.old)) ≡ noted (given result.words (so_far result.pen cells.new)) list.new }
+    ensures cells_value { noting words mem.now list.old (row_cells settings fill (over head.number head.first head.end (segments_of settings.linear head.count window.now)) (segments_of settings.linear count back.now) (so_far pen cells.old)) ≡ noted (given result.words (so_far result.pen cells.new)) list.new }
 {
     let before_it = Stretch {
         settings,
         fill,
         source: Source { kind: 1, window: 0 },
-        side: Side::Before(first),
-        end: first,
+        side: Side::Before(head.first),
+        end: head.first,
     };
     let before = draw_stretch(mem, before_it, back, count, pen, words, cells, list);
     let within = Stretch {
@@ -112,22 +103,27 @@ fn draw_around(
         fill,
         source: Source {
             kind: 2,
-            window: number,
+            window: head.number,
         },
         side: Side::Whole,
-        end,
-    };
-    let null = memory::Pointer {
-        address: 0,
-        from: 0,
+        end: head.end,
     };
     let left = before.pen;
-    let begun = pens::with_list(null, left);
-    let inside = draw_stretch(mem, within, window, n, begun, before.words, cells, list);
+    let begun = pens::with_list(Pointer::NULL, left);
+    let inside = draw_stretch(
+        mem,
+        within,
+        window,
+        head.count,
+        begun,
+        before.words,
+        cells,
+        list,
+    );
     let in_use = before.pen.list;
     let right = inside.pen;
     let resumed = pens::using_list(in_use, right);
-    let side = Side::After(first, end);
+    let side = Side::After(head.first, head.end);
     let after_it = Stretch {
         settings,
         fill,
@@ -216,8 +212,7 @@ fn draw_side(
     let mut current = pen;
     let mut read = words;
     let mut at = 0;
-    let mut i = 0;
-    while i < n {
+    for i in 0..n {
         let g = blocks::segment_at(true, count, segments, i);
         let w = layout::width(settings.hidden, g);
         let chosen = layout::on_side(side, at, w);
@@ -228,7 +223,6 @@ fn draw_side(
         current = pens::anew(after);
         read = drawn.words;
         at += w;
-        i += 1;
     }
     Reached {
         pen: current,

@@ -1,7 +1,8 @@
--- The text of a frame, from its start and by each answer of a step.
+-- The text of a frame in any form, from its start and by each answer of a step; a row that is drawn has good settings.
+use Rattle.std.proofs.Common.{Ok, Err}
 use mathlib.Core.Path.{◌≡◌, sym, ap, subst, ◌∙◌}
-use mathlib.Core.List.{List, ◌++◌, append_assoc, append-nil}
-use Prim.Native.Nat.{ℕ, suc, ◌+◌, ◌<◌}
+use mathlib.Core.List.{List, ◌++◌, append_assoc}
+use Prim.Native.Nat.{ℕ, suc, ◌+◌}
 use native.Mathlib.Omega.{arith}
 use native.Mathlib.Nat.{zero-add}
 use lib.ListN.{length}
@@ -10,7 +11,6 @@ use Rattle.memory.proofs.ReadBounds.{Words}
 use Rattle.settings.specs.declared.Settings.{Settings}
 use Rattle.row.specs.declared.DrawnRow.{DrawnRow}
 use Rattle.frame.specs.declared.Progress.{Progress}
-use Rattle.frame.specs.declared.BeginAnswer.TheVariants as Begin
 use Rattle.frame.specs.declared.StepAnswer.{StepAnswer}
 use Rattle.frame.specs.declared.StepAnswer.TheVariants as Step
 use Rattle.frame.specs.Step.{Stepped, stepped, begin, step, in_bound}
@@ -18,28 +18,15 @@ use Rattle.frame.specs.Frame.{frame_row, by_answer, by_step, rest, frame}
 use Rattle.frame.proofs.StepLaws.{Advanced, Advances, advances}
 use Rattle.frame.proofs.Frames.{next-step}
 use Rattle.frame.proofs.Calls.{in-bound, made-next, started-made}
-use Rattle.lines.specs.Lines.{Line, end_line, refusal_line}
-use Rattle.text.specs.declared.Text.{Text}
-use Rattle.text.specs.declared.Text.TheVariants.{Rows, Ended}
-use Rattle.text.specs.Text.{row_text, rows_text, frame_text}
-use Rattle.text.specs.ToCome.{to_come, calls, Writes}
+use Rattle.lines.specs.Lines.{refusal_line}
+use Rattle.text.specs.declared.Text.TheVariants.{Rows}
+use Rattle.text.specs.Form.{Form, rows_text, frame_text, to_come}
 
--- a line, with a text that begins with it
-pub with-line : (m : List ℕ) (t u : Text) {line : List ℕ} (n : ℕ) (buffer : List ℕ) → Line line n buffer → line ++ to_come m u ≡ to_come m t
-    → calls u < calls t → Writes m t n u buffer
-with-line m t u n buffer l e f = record { within = l.0; sized = l.1; lines = ap (λ (x : List ℕ). x ++ to_come m u) l.2 ∙ e; fewer = f }
-
--- the last line
-pub last_line : (m : List ℕ) (t : Text) {line : List ℕ} (n : ℕ) (buffer : List ℕ) → Line line n buffer → line ≡ to_come m t
-    → 0 < calls t → Writes m t n Ended buffer
-unfolding to_come
-last_line m t {line} n buffer l e f = with-line m t Ended n buffer l (append-nil line ∙ e) f
-
-module _ (σ : Settings) (m : List ℕ) (w : Words m) where
+module _ (f : Form) (σ : Settings) (m : List ℕ) (w : Words m) where
   -- what a row prints, then the text of the frame in progress after it
   drawn-text : (p q : Progress) (r : DrawnRow) (cells : List ℕ) → Advanced (in_bound p) r q
       → rest σ m (in_bound p) ≡ by_answer (rest σ m) (in_bound p) (Step.Drawn r q) cells
-      → row_text σ (frame_row r cells) ++ to_come m (Rows σ q) ≡ to_come m (Rows σ p)
+      → f.row σ (frame_row r cells) ++ to_come f m (Rows σ q) ≡ to_come f m (Rows σ p)
   unfolding to_come rows_text
   drawn-text p q r cells h e =
       let i : in_bound q ≡ q = in-bound q (made-next σ m w (omega arith) h) in
@@ -56,11 +43,11 @@ module _ (σ : Settings) (m : List ℕ) (w : Words m) where
     )
 
     pub row-text : {q : Progress} {r : DrawnRow} {cells : List ℕ} → stepped (Step.Drawn r q) cells ≡ step σ m (in_bound p) b
-        → row_text σ (frame_row r cells) ++ to_come m (Rows σ q) ≡ to_come m (Rows σ p)
+        → f.row σ (frame_row r cells) ++ to_come f m (Rows σ q) ≡ to_come f m (Rows σ p)
     row-text e = let k = by-step e in drawn-text p _ _ _ k.1 k.0
 
     pub end-text : {rows words : ℕ} {cells : List ℕ} → stepped (Step.Ended rows words) cells ≡ step σ m (in_bound p) b
-        → end_line rows words ≡ to_come m (Rows σ p)
+        → f.end rows words ≡ to_come f m (Rows σ p)
     unfolding to_come rows_text
     end-text {rows} {words} e =
         let k = by-step e in
@@ -68,18 +55,18 @@ module _ (σ : Settings) (m : List ℕ) (w : Words m) where
         rw (k.0, n, k.1.2)
 
     pub refusal-text : {r : Refusal} {cells : List ℕ} → stepped (Step.Refused r) cells ≡ step σ m (in_bound p) b
-        → refusal_line r ≡ to_come m (Rows σ p)
+        → refusal_line r ≡ to_come f m (Rows σ p)
     unfolding to_come rows_text
     refusal-text e = rw (by-step e).0
 
   -- from a start
   module _ (latch : ℕ) where
-    pub begun-text : {p : Progress} → begin latch σ m ≡ Begin.Begun p → to_come m (Rows σ p) ≡ frame_text σ (frame latch σ m)
+    pub begun-text : {p : Progress} → begin latch σ m ≡ Ok p → to_come f m (Rows σ p) ≡ frame_text f σ (frame latch σ m)
     unfolding to_come frame_text frame
     begun-text {p} e =
         let k = started-made σ m w latch e in
         rw (e, in-bound p k.1, k.0, zero-add)
 
-    pub refused-text : {r : Refusal} → begin latch σ m ≡ Begin.Refused r → refusal_line r ≡ frame_text σ (frame latch σ m)
+    pub refused-text : {r : Refusal} → begin latch σ m ≡ Err r → refusal_line r ≡ frame_text f σ (frame latch σ m)
     unfolding frame_text rows_text frame
     refused-text e = rw e

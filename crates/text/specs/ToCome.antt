@@ -1,39 +1,11 @@
--- What of a text is still to come, and what a call for its next lines gives. No rules of their own.
-use Rattle.std.specs.Prelude.{ℕ, ◌+◌, ◌<◌, ◌≤◌, ◌≡◌, List, [], ◌++◌, length, take}
-use Rattle.settings.specs.declared.Settings.{Settings}
-use Rattle.frame.specs.Step.{in_bound}
-use Rattle.frame.specs.Frame.{Frame, rest}
-use Rattle.lines.specs.Lines.{refusal_line, script_line}
+-- What of the draw program's text is still to come. No rules of their own.
+use Rattle.std.specs.Prelude.{ℕ, List}
 use Rattle.text.specs.declared.Text.{Text}
-use Rattle.text.specs.declared.Text.TheVariants.{Rows, Refused, NoScript, Ended}
-use Rattle.text.specs.declared.Lines.{Lines}
-use Rattle.text.specs.Text.{rows_text, last_line}
+use Rattle.text.specs.Form as Form
+use Rattle.text.specs.Text.{drawing}
 
--- the text of a frame in progress: its next row's number counts the rows before
-abbrev pub from_row : Settings → ℕ → Frame → List ℕ
-from_row σ row f = rows_text σ f.rows ++ last_line f.refusal (row + length f.rows) f.words
+abbrev pub to_come : List ℕ → Text → List ℕ
+to_come = Form.to_come drawing
 
-unfoldable pub to_come : List ℕ → Text → List ℕ
-to_come m (Rows σ p) = from_row σ p.state.fields.row (rest σ m (in_bound p))
-to_come m (Refused r) = refusal_line r
-to_come m (NoScript n) = script_line n
-to_come m Ended = []
-
--- a bound on the calls that it takes to the text's end
 abbrev pub calls : Text → ℕ
-calls (Rows σ p) = p.state.fields.left + 1
-calls (Refused r) = 1
-calls (NoScript n) = 1
-calls Ended = 0
-
--- n bytes that were written at the start of a buffer, then the text u, are the text t. What the buffer's bytes past these are is left free.
-pub record Writes (m : List ℕ) (t : Text) (n : ℕ) (u : Text) (buffer : List ℕ) : Type 0 where
-  pub within : n ≤ length buffer
-  pub sized : n ≡ length (take n buffer)
-  pub lines : take n buffer ++ to_come m u ≡ to_come m t
-  pub fewer : calls u < calls t
-
--- a call gives the next lines, or says that the text is at its end
-abbrev pub Next : List ℕ → Text → Lines → List ℕ → Type 0
-Next m t (Lines.Written n u) buffer = Writes m t n u buffer
-Next m t Lines.AtEnd buffer = to_come m t ≡ []
+calls = Form.calls

@@ -1,17 +1,16 @@
 -- The calls of a console on a row's text; their statuses are those of Calls, with document 02's 23 and 24.
-use Rattle.std.specs.Prelude.{ℕ, List, length, eqb}
+use Rattle.std.specs.Prelude.{ℕ, List, length, eqb, Option, Some, None}
 use Rattle.memory.specs.Word.{when◌then◌else◌}
-use Rattle.numbers.specs.declared.decode.SettingsIn.{SettingsIn}
-use Rattle.numbers.specs.declared.decode.SettingsIn.TheVariants as Settings-in
+use Rattle.settings.specs.declared.Settings.{Settings}
 use Rattle.numbers.specs.Decode.{settings_in}
 use Rattle.mail.specs.Write.{write_mail}
 use Rattle.mail_reader.specs.Read.{read_mail}
 use Rattle.mail_answers.specs.AfterMail.{Lent, lent, after_write, after_read}
 
 -- the writer
-abbrev pub write_from : List ℕ → List ℕ → List ℕ → SettingsIn → Lent
-write_from cells text answer (Settings-in.Fit σ) = after_write answer (write_mail σ cells text)
-write_from cells text answer Settings-in.Unfit = lent 255 text answer
+abbrev pub write_from : List ℕ → List ℕ → List ℕ → Option Settings → Lent
+write_from cells text answer (Some σ) = after_write answer (write_mail σ cells text)
+write_from cells text answer None = lent 255 text answer
 
 unfoldable pub host_write_mail : List ℕ → List ℕ → List ℕ → List ℕ → Lent
 host_write_mail settings cells text answer =

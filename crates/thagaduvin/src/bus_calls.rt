@@ -6,6 +6,7 @@ ghost use Rattle.thagaduvin.specs.BusCalls.{host_bus};
 use bus::BusRow;
 
 // A row handed in: its figures in `answer`, and the running totals in `totals`, brought up to date. A refusal writes nothing.
+#[tactic(auto, unfolding(crate::specs::BusCalls::host_bus))]
 pub fn thagaduvin_bus(
     burst: u16,
     words: u32,
@@ -16,12 +17,12 @@ pub fn thagaduvin_bus(
 ) -> u8
     ensures { called result totals.new answer.new ≡ host_bus (record { burst = burst; words = words; screen = screen; row = row }) totals.old answer.old }
 {
-    if totals.len() != 7 {
+    let Some(totals) = totals.as_mut_array() else {
         return 255;
-    }
-    if answer.len() != 2 {
+    };
+    let Some(answer) = answer.as_mut_array() else {
         return 255;
-    }
+    };
     if 1 < totals[6] {
         return 255;
     }

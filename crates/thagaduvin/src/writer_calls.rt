@@ -2,9 +2,10 @@
 ghost use Rattle.std.specs.Prelude.{◌≡◌};
 ghost use Rattle.thagaduvin.specs.WriterCalls.{word_written, host_write_word};
 
-use writer::{Span, WriteAnswer};
+use writer::Span;
 
 // Writes one word at an address of the writer's own span; the other desk's span is told too.
+#[tactic(auto, unfolding(crate::specs::WriterCalls::host_write_word))]
 pub fn thagaduvin_write_word(
     memory: &mut [u16],
     own_first: u32,
@@ -25,7 +26,7 @@ pub fn thagaduvin_write_word(
         last: other_last,
     };
     match writer::write_word(memory, own, other, address, word) {
-        WriteAnswer::Written => 0,
-        WriteAnswer::Refused(r) => r.number,
+        Ok(()) => 0,
+        Err(r) => r.number,
     }
 }

@@ -1,4 +1,5 @@
 -- A caller who draws next hands in the numbers that an accepted call left: they are read as the settings that were turned.
+use Rattle.std.proofs.Common.{Some}
 use mathlib.Core.Path.{◌≡◌, refl}
 use mathlib.Core.Bool.{Bool, true, false, ◌&&◌}
 use mathlib.Core.List.{List, [], ◌∷◌}
@@ -9,7 +10,6 @@ use lib.ListN.{length}
 use lib.Dec.{leb}
 use borrow.Author.Tests.{le-leb}
 use Rattle.settings.specs.Good.{good}
-use Rattle.numbers.specs.declared.decode.SettingsIn.TheVariants.{Fit}
 use Rattle.numbers.specs.Decode.{modes_fit, htd_at, settings_at, settings_in}
 use Rattle.numbers.proofs.Judged.{settings-refused}
 use Rattle.converter.specs.Converter.{turned_first, turned_settings}
@@ -47,7 +47,7 @@ tests true b c d e f g h i j met = last-five (b && c && d && e && f) g h i j met
 tests false b c d e f g h i j met = cc
 
 abbrev Read : List ℕ → Type 0
-Read xs = modes_fit xs ≡ true → settings_in (settings_after (turned_settings (settings_at xs)) xs) ≡ Fit (turned_settings (settings_at xs))
+Read xs = modes_fit xs ≡ true → settings_in (settings_after (turned_settings (settings_at xs)) xs) ≡ Some (turned_settings (settings_at xs))
 
 eighteen : OfAll 18 Read
 unfolding settings_in settings_after settings_at turned_settings htd_at modes_fit
@@ -63,9 +63,9 @@ eighteen a b c d e f g h i j k l m n o p q r met =
 
 -- good settings, as a conversion accepts them
 pub again : (xs : List ℕ) → length xs ≡ 18 → good (settings_at xs) ≡ true
-    → settings_in (settings_after (turned_settings (settings_at xs)) xs) ≡ Fit (turned_settings (settings_at xs))
+    → settings_in (settings_after (turned_settings (settings_at xs)) xs) ≡ Some (turned_settings (settings_at xs))
 again xs l g = by (modes_fit xs) refl
   where
-    by : (t : Bool) → modes_fit xs ≡ t → settings_in (settings_after (turned_settings (settings_at xs)) xs) ≡ Fit (turned_settings (settings_at xs))
+    by : (t : Bool) → modes_fit xs ≡ t → settings_in (settings_after (turned_settings (settings_at xs)) xs) ≡ Some (turned_settings (settings_at xs))
     by true e = of-all 18 Read eighteen xs l e
     by false e = let refused = settings-refused xs e in cc

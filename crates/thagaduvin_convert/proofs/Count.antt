@@ -1,5 +1,6 @@
 -- A conversion changes fewer than 2^32 pointers: a frame has no more rows than lines, a row reads fewer than 12,000 words, and a word that the
 -- frame does not read stays.
+use Rattle.std.proofs.Common.{Ok}
 use mathlib.Core.Path.{◌≡◌, refl, sym, ap, ◌∙◌}
 use mathlib.Core.Bool.{Bool, true, false}
 use mathlib.Core.List.{List, [], ◌∷◌}
@@ -22,7 +23,6 @@ use Rattle.row.specs.Row.{Row}
 use Rattle.start.specs.Start.{first_fields, window_start, main_start}
 use Rattle.start.proofs.StartBound.{top-reads}
 use Rattle.converter.specs.declared.Conversion.{Conversion}
-use Rattle.converter.specs.declared.ConvertAnswer.TheVariants.{Accepted}
 use Rattle.converter.specs.Below.{then_read, rows_read, frame_read, state_after, row_below}
 use Rattle.converter.specs.Converter.{turned_first, change, changes, convert_call}
 use Rattle.converter.specs.Conversions.{is_read, Sixteen}
@@ -120,7 +120,7 @@ module _ (latch : ℕ) (σ : Settings) (m : List ℕ) (b : Words m) where
 
 -- of settings whose VAL has 16 bits, as every caller's have
 pub count_fits : (latch : ℕ) (σ : Settings) (m : List ℕ) (marks : ℕ) (c : Conversion) → Sixteen σ m → σ.val < 65536
-    → (convert_call latch σ m marks).answer ≡ Accepted c → c.pointers < 4294967296
+    → (convert_call latch σ m marks).answer ≡ Ok c → c.pointers < 4294967296
 unfolding lines_for_rows
 count_fits latch σ m marks c h v e =
     let t = all-turn latch σ m marks c h e in

@@ -1,17 +1,14 @@
 -- The call of a console that converts. Status 0 is an accepted call, 255 one whose settings or answer have the wrong length; others are
 -- the refusals' numbers. The number of marks is judged by refusal 22; what they hold is free.
-use Rattle.std.specs.Prelude.{ℕ, List, [], ◌∷◌, length, set, eqb}
+use Rattle.std.specs.Prelude.{ℕ, List, [], ◌∷◌, length, set, eqb, Option, Some, None, Result, Ok, Err}
 use Rattle.memory.specs.Word.{when◌then◌else◌}
 use Rattle.memory.specs.declared.Refusal.{Refusal}
 use Rattle.settings.specs.declared.Settings.{Settings}
-use Rattle.numbers.specs.declared.decode.SettingsIn.{SettingsIn}
-use Rattle.numbers.specs.declared.decode.SettingsIn.TheVariants as Settings-in
 use Rattle.numbers.specs.Decode.{settings_in}
 use Rattle.answers.specs.AnswerNumbers.{one_number}
 use Rattle.answers.specs.Changing.{Left, left}
-use Rattle.converter.specs.declared.ConvertAnswer.{ConvertAnswer}
-use Rattle.converter.specs.declared.ConvertAnswer.TheVariants.{Accepted, Refused}
 use Rattle.converter.specs.Converter.{Called, convert_call}
+use Rattle.converter.specs.declared.Conversion.{Conversion}
 
 -- the settings' numbers once they were turned: linear stands at 0, the first words of TOP and TOW at 5 and 7; all others stay
 unfoldable pub settings_after : Settings → List ℕ → List ℕ
@@ -22,16 +19,16 @@ unfoldable pub refusal_numbers : Refusal → List ℕ
 refusal_numbers r = r.row ∷ r.address ∷ r.from ∷ 0 ∷ []
 
 -- "A refusal changes nothing but marks."
-abbrev pub by_answer : List ℕ → List ℕ → ConvertAnswer → Left
-by_answer settings m (Accepted c) = left 0 (settings_after c.settings settings) m (one_number c.pointers)
-by_answer settings m (Refused r) = left r.number settings m (refusal_numbers r)
+abbrev pub by_answer : List ℕ → List ℕ → Result Conversion Refusal → Left
+by_answer settings m (Ok c) = left 0 (settings_after c.settings settings) m (one_number c.pointers)
+by_answer settings m (Err r) = left r.number settings m (refusal_numbers r)
 
 abbrev pub after_call : List ℕ → Called → Left
 after_call settings c = by_answer settings c.memory c.answer
 
-abbrev pub convert_with : List ℕ → List ℕ → ℕ → ℕ → List ℕ → SettingsIn → Left
-convert_with settings m marks latch answer (Settings-in.Fit σ) = after_call settings (convert_call latch σ m marks)
-convert_with settings m marks latch answer Settings-in.Unfit = left 255 settings m answer
+abbrev pub convert_with : List ℕ → List ℕ → ℕ → ℕ → List ℕ → Option Settings → Left
+convert_with settings m marks latch answer (Some σ) = after_call settings (convert_call latch σ m marks)
+convert_with settings m marks latch answer None = left 255 settings m answer
 
 -- of settings, memory, the number of marks, the latch and the answer
 unfoldable pub host_convert : List ℕ → List ℕ → ℕ → ℕ → List ℕ → Left

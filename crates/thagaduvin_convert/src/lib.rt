@@ -6,14 +6,13 @@ ghost use Rattle.answers.specs.Changing.{left};
 ghost use Rattle.converter.specs.Converter.{convert_call};
 ghost use Rattle.thagaduvin_convert.specs.ConvertCalls.{settings_after, refusal_numbers, after_call, host_convert};
 
-use converter::ConvertAnswer;
 use memory::Refusal;
-use numbers::decode::SettingsIn;
-use numbers::{decode, encode};
+use numbers::decode;
 use settings::Settings;
 
 // The pointers that a frame from a latch reads turned into linear form, in `memory` and in `settings`, which are then linear; how many
 // have changed in `answer`. `marks` are free.
+#[tactic(auto, unfolding(crate::specs::ConvertCalls::host_convert, numbers::specs::Decode::settings_in))]
 pub fn thagaduvin_convert(
     settings: &mut [u32],
     memory: &mut [u16],
@@ -23,35 +22,34 @@ pub fn thagaduvin_convert(
 ) -> u8
     ensures { left result settings.new memory.new answer.new ≡ host_convert settings.old memory.old (length marks.old) latch answer.old }
 {
-    if answer.len() != 4 {
+    let Some(answer) = answer.as_mut_array() else {
         return 255;
-    }
-    match decode::settings_in(settings) {
-        SettingsIn::Fit(s) => convert_into(s, settings, memory, marks, latch, answer),
-        SettingsIn::Unfit => 255,
-    }
+    };
+    let Some(settings) = settings.as_mut_array() else {
+        return 255;
+    };
+    let s = decode::settings_at(settings);
+    convert_into(s, settings, memory, marks, latch, answer)
 }
 
 // A conversion from settings, and what it leaves in their numbers.
 fn convert_into(
     s: Settings,
-    settings: &mut [u32],
+    settings: &mut [u32; 18],
     memory: &mut [u16],
     marks: &mut [u8],
     latch: u16,
-    answer: &mut [u32],
+    answer: &mut [u32; 4],
 ) -> u8
-    requires { (length settings.old ≡ 18) × (length answer.old ≡ 4) }
     ensures { left result settings.new memory.new answer.new ≡ after_call settings.old (convert_call latch s memory.old (length marks.old)) }
 {
     match conversion::convert(s, memory, marks, latch) {
-        ConvertAnswer::Accepted(c) => {
-            let turned = c.settings;
-            write_settings(turned, settings);
+        Ok(c) => {
+            write_settings(c.settings, settings);
             answers::encode::write_number(c.pointers as u32, answer);
             0
         }
-        ConvertAnswer::Refused(r) => {
+        Err(r) => {
             write_refusal(r, answer);
             r.number
         }
@@ -59,21 +57,19 @@ fn convert_into(
 }
 
 // Settings that were turned, in their numbers.
-fn write_settings(turned: Settings, settings: &mut [u32])
-    requires { length settings.old ≡ 18 }
+#[tactic(auto, unfolding(crate::specs::ConvertCalls::settings_after))]
+fn write_settings(turned: Settings, settings: &mut [u32; 18])
     ensures { settings.new ≡ settings_after turned settings.old }
 {
-    let top = turned.top;
-    let tow = turned.tow;
     settings[0] = 1;
-    settings[5] = top.first as u32;
-    settings[7] = tow.first as u32;
+    settings[5] = turned.top.first as u32;
+    settings[7] = turned.tow.first as u32;
 }
 
-fn write_refusal(r: Refusal, answer: &mut [u32])
-    requires { length answer.old ≡ 4 }
+// The numbers of a refusal.
+#[tactic(auto, unfolding(crate::specs::ConvertCalls::refusal_numbers))]
+fn write_refusal(r: Refusal, answer: &mut [u32; 4])
     ensures { answer.new ≡ refusal_numbers r }
 {
-    let numbers = [r.row, r.address, r.from, 0];
-    encode::write(&numbers, answer);
+    *answer = [r.row, r.address, r.from, 0];
 }

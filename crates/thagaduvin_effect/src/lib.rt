@@ -5,12 +5,11 @@ ghost use Rattle.std.specs.Prelude.{◌≡◌};
 ghost use Rattle.answers.specs.AfterCall.{answered, stated};
 ghost use Rattle.thagaduvin_effect.specs.EffectCalls.{host_effect, host_join, host_apply};
 
-use effects::decode::EffectIn;
 use effects::encode;
 use numbers::decode;
-use numbers::decode::{SettingsIn, StateIn};
 
 // The effect of the next row, in `effect`; the next state's fields but the latch, in `state`.
+#[tactic(auto, unfolding(crate::specs::EffectCalls::host_effect, numbers::specs::Decode::is_state, numbers::specs::Decode::state_in))]
 pub fn thagaduvin_effect(
     settings: &[u32],
     memory: &[u16],
@@ -19,46 +18,49 @@ pub fn thagaduvin_effect(
 ) -> u8
     ensures { stated result state.new effect.new ≡ host_effect settings.now memory.now state.old effect.old }
 {
-    if effect.len() != 12 {
+    let Some(effect) = effect.as_mut_array() else {
         return 255;
-    }
-    match decode::settings_in(settings) {
-        SettingsIn::Fit(s) => match decode::state_in(state) {
-            StateIn::Fit(t) => effects::next_effect(s, memory, t, state, effect),
-            StateIn::Unfit => 255,
-        },
-        SettingsIn::Unfit => 255,
+    };
+    let Some(s) = decode::settings_in(settings) else {
+        return 255;
+    };
+    let Some(state) = state.as_mut_array() else {
+        return 255;
+    };
+    match decode::state_from(state) {
+        Some(t) => effects::next_effect(s, memory, t, state, effect),
+        None => 255,
     }
 }
 
 // The effect `first`, and then `second`, in `joined`.
+#[tactic(auto, unfolding(crate::specs::EffectCalls::host_join))]
 pub fn thagaduvin_join(first: &[u32], second: &[u32], joined: &mut [u32]) -> u8
     ensures { answered result joined.new ≡ host_join first.now second.now joined.old }
 {
-    if joined.len() != 12 {
+    let Some(joined) = joined.as_mut_array() else {
         return 255;
-    }
-    match effects::decode::effect_in(first) {
-        EffectIn::Fit(d) => match effects::decode::effect_in(second) {
-            EffectIn::Fit(e) => {
-                encode::write_effect(d.join(e), joined);
-                0
-            }
-            EffectIn::Unfit => 255,
-        },
-        EffectIn::Unfit => 255,
-    }
+    };
+    let Some(d) = effects::decode::effect_in(first) else {
+        return 255;
+    };
+    let Some(e) = effects::decode::effect_in(second) else {
+        return 255;
+    };
+    encode::write_effect(d.join(e), joined);
+    0
 }
 
 // The latch that an effect makes of `latch`, in `answer`.
+#[tactic(auto, unfolding(crate::specs::EffectCalls::host_apply))]
 pub fn thagaduvin_apply(effect: &[u32], latch: u16, answer: &mut [u32]) -> u8
     ensures { answered result answer.new ≡ host_apply effect.now latch answer.old }
 {
-    if answer.len() != 4 {
+    let Some(answer) = answer.as_mut_array() else {
         return 255;
-    }
+    };
     match effects::decode::effect_in(effect) {
-        EffectIn::Fit(e) => effects::applied(e, latch, answer),
-        EffectIn::Unfit => 255,
+        Some(e) => effects::applied(e, latch, answer),
+        None => 255,
     }
 }

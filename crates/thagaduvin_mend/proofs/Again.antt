@@ -1,4 +1,5 @@
 -- A caller who calls again hands in the numbers that the call left: they are read as the settings after the change.
+use Rattle.std.proofs.Common.{Some}
 use mathlib.Core.Path.{◌≡◌, refl, ap, ◌∙◌}
 use mathlib.Core.Bool.{Bool, true, ◌&&◌}
 use mathlib.Core.List.{List}
@@ -11,7 +12,6 @@ use borrow.Author.Tests.{eq-eqb}
 use Rattle.memory.specs.Word.{at}
 use Rattle.memory.proofs.ReadBounds.{both}
 use Rattle.settings.specs.declared.Settings.{Settings}
-use Rattle.numbers.specs.declared.decode.SettingsIn.TheVariants.{Fit}
 use Rattle.numbers.specs.Decode.{modes_fit, htd_at, settings_at, settings_in}
 use Rattle.blame.specs.declared.Place.{Place}
 use Rattle.blame.specs.declared.Place.TheVariants.{Register, Memory}
@@ -82,11 +82,11 @@ module _ (xs : List ℕ) (l : length xs ≡ 18) where
       )
 
 -- numbers in the ranges of their fields, read again
-pub again : (xs : List ℕ) → length xs ≡ 18 → modes_fit xs ≡ true → (p : Place) → settings_in (tow_after p xs) ≡ Fit (settings_after p (settings_at xs))
+pub again : (xs : List ℕ) → length xs ≡ 18 → modes_fit xs ≡ true → (p : Place) → settings_in (tow_after p xs) ≡ Some (settings_after p (settings_at xs))
 unfolding settings_in tow_after settings_after
 again xs l h Register =
-    rw (eq-eqb (length (ys xs l)) 18 (length-set (set xs 7 0) 8 0 ∙ length-set xs 7 0 ∙ l)) (ap Fit (cleared xs l h))
-again xs l h (Memory a) = rw (eq-eqb (length xs) 18 l) (ap Fit (same (settings_at xs)))
+    rw (eq-eqb (length (ys xs l)) 18 (length-set (set xs 7 0) 8 0 ∙ length-set xs 7 0 ∙ l)) (ap Some (cleared xs l h))
+again xs l h (Memory a) = rw (eq-eqb (length xs) 18 l) (ap Some (same (settings_at xs)))
   where
     same : (σ : Settings) → σ ≡ settings_after (Memory a) σ
     same σ = refl

@@ -1,5 +1,6 @@
 -- A console's calls, one after the other, are the mending: a call is a step, its numbers are read as the settings after it, and each change
 -- leaves fewer words that are not 0.
+use Rattle.std.proofs.Common.{Some}
 use mathlib.Core.Path.{◌≡◌, refl, sym, ap, ◌∙◌}
 use mathlib.Core.Bool.{Bool, true, false, ◌&&◌, not}
 use mathlib.Core.List.{List, ◌∷◌}
@@ -13,7 +14,6 @@ use Rattle.memory.specs.Reading.{◌>>=◌, fault, refused, refusal, run_from, r
 use Rattle.memory.proofs.ReadBounds.{Words}
 use Rattle.settings.specs.declared.Settings.{Settings}
 use Rattle.settings.specs.Good.{check_settings}
-use Rattle.numbers.specs.declared.decode.SettingsIn.TheVariants.{Fit}
 use Rattle.numbers.specs.Decode.{modes_fit, settings_at, settings_in}
 use Rattle.numbers.proofs.Judged.{settings-refused}
 use Rattle.answers.specs.Changing.{left}
@@ -53,7 +53,7 @@ is-step : (latch : ℕ) (xs m answer : List ℕ) → length xs ≡ 18 → length
 unfolding host_mend settings_in
 is-step latch xs m answer l k = rw (eq-eqb (length answer) 8 k, eq-eqb (length xs) 18 l)
 
-read-in : (xs : List ℕ) → length xs ≡ 18 → settings_in xs ≡ Fit (settings_at xs)
+read-in : (xs : List ℕ) → length xs ≡ 18 → settings_in xs ≡ Some (settings_at xs)
 unfolding settings_in
 read-in xs l = rw (eq-eqb (length xs) 18 l)
 

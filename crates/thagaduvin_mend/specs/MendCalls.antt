@@ -1,9 +1,8 @@
 -- The call of a console that mends. Status 0 is an accepted call, 255 one whose slices have the wrong length; others are the refusals'
 -- numbers.
-use Rattle.std.specs.Prelude.{ℕ, List, [], ◌∷◌, length, set, eqb}
+use Rattle.std.specs.Prelude.{ℕ, List, [], ◌∷◌, length, set, eqb, Option, Some, None}
 use Rattle.memory.specs.Word.{when◌then◌else◌}
-use Rattle.numbers.specs.declared.decode.SettingsIn.{SettingsIn}
-use Rattle.numbers.specs.declared.decode.SettingsIn.TheVariants as Settings-in
+use Rattle.settings.specs.declared.Settings.{Settings}
 use Rattle.numbers.specs.Decode.{settings_in}
 use Rattle.answers.specs.AnswerNumbers.{with_refusal}
 use Rattle.answers.specs.Changing.{Left, left}
@@ -35,9 +34,9 @@ by_answer settings answer m (Refused r) = left r.number settings m (with_refusal
 abbrev pub after_step : List ℕ → List ℕ → Stepped → Left
 after_step settings answer s = by_answer settings answer s.memory s.answer
 
-abbrev pub mend_with : List ℕ → List ℕ → ℕ → List ℕ → SettingsIn → Left
-mend_with settings m latch answer (Settings-in.Fit σ) = after_step settings answer (mend_step latch σ m)
-mend_with settings m latch answer Settings-in.Unfit = left 255 settings m answer
+abbrev pub mend_with : List ℕ → List ℕ → ℕ → List ℕ → Option Settings → Left
+mend_with settings m latch answer (Some σ) = after_step settings answer (mend_step latch σ m)
+mend_with settings m latch answer None = left 255 settings m answer
 
 unfoldable pub host_mend : List ℕ → List ℕ → ℕ → List ℕ → Left
 host_mend settings m latch answer =

@@ -1,7 +1,6 @@
 -- A console that mends: it calls until a call makes no change, each time with the slices as the call before left them.
-use Rattle.std.specs.Prelude.{ℕ, zero, suc, ◌<◌, ◌≡◌, Bool, false, ◌&&◌, not, List, [], ◌∷◌, map, length, get_or, eqb}
+use Rattle.std.specs.Prelude.{ℕ, zero, suc, ◌<◌, ◌≡◌, Bool, false, ◌&&◌, not, List, [], ◌∷◌, map, length, get_or, eqb, Some}
 use Rattle.memory.specs.Word.{when◌then◌else◌, at}
-use Rattle.numbers.specs.declared.decode.SettingsIn.TheVariants.{Fit}
 use Rattle.numbers.specs.Decode.{settings_at, settings_in}
 use Rattle.answers.specs.Changing.{Left, left}
 use Rattle.mending.specs.Mending.{Mended, count, mended}
@@ -32,7 +31,7 @@ pub record Comes (d : Mended) (l : Loop) : Type 0 where
   pub changes : l.changes ≡ map change_numbers d.changes
   -- the mended list: memory, and numbers that are read as its settings
   pub memory : l.last.memory ≡ d.memory
-  pub settings : settings_in l.last.settings ≡ Fit d.settings
+  pub settings : settings_in l.last.settings ≡ Some d.settings
   -- the last call made no change
   pub ended : changed l.last ≡ false
 

@@ -9,11 +9,11 @@ ghost use Rattle.thagaduvin_scroll.specs.PanelCalls.{host_line, host_shown};
 ghost use Rattle.thagaduvin_scroll.specs.ScrollCalls.{host_shift, host_beside};
 
 use numbers::decode;
-use numbers::decode::SettingsIn;
 use panel::Columns;
 use settings::PointerWords;
 
 // The shift of the next frame, in `scroll`, from the last one there; the hard top, in `answer`. `first` and `second` are the soft top.
+#[tactic(auto, unfolding(crate::specs::ScrollCalls::host_shift))]
 pub fn thagaduvin_shift(
     settings: &[u32],
     memory: &[u16],
@@ -24,20 +24,21 @@ pub fn thagaduvin_shift(
 ) -> u8
     ensures { stated result scroll.new answer.new ≡ host_shift settings.now memory.now (record { first = first; second = second }) scroll.old answer.old }
 {
-    if scroll.len() != 3 {
+    let Some(scroll) = scroll.as_mut_array() else {
         return 255;
-    }
-    if answer.len() != 5 {
+    };
+    let Some(answer) = answer.as_mut_array() else {
         return 255;
-    }
+    };
     let soft = PointerWords { first, second };
     match decode::settings_in(settings) {
-        SettingsIn::Fit(s) => shifts::next_shift(s, memory, soft, scroll, answer),
-        SettingsIn::Unfit => 255,
+        Some(s) => shifts::next_shift(s, memory, soft, scroll, answer),
+        None => 255,
     }
 }
 
 // The row beside the cut of a frame with a shift, its cells in `cells`, the addresses of the words read in `list`; nothing of it goes on into the frame.
+#[tactic(auto, unfolding(crate::specs::ScrollCalls::host_beside))]
 pub fn thagaduvin_beside(
     settings: &[u32],
     memory: &[u16],
@@ -52,20 +53,21 @@ pub fn thagaduvin_beside(
 ) -> u8
     ensures { beside_done result cells.new list.new answer.new ≡ host_beside settings.now memory.now shift (record { first = first; second = second }) latch state.now cells.old list.old answer.old }
 {
-    if answer.len() != 8 {
+    let Some(answer) = answer.as_mut_array() else {
         return 255;
-    }
+    };
     let soft = PointerWords { first, second };
     match decode::settings_in(settings) {
-        SettingsIn::Fit(s) => {
+        Some(s) => {
             shifts::beside_from(s, memory, shift, soft, latch, state, cells, list, answer)
         }
-        SettingsIn::Unfit => 255,
+        None => 255,
     }
 }
 
 // What line y of the screen shows of a frame with a shift, seven numbers in `answer`: what glides there, what stands still, and how many
 // lines from it on have these two. `heights` are those of the frame's rows, `rows` of them, and then of the rows below.
+#[tactic(auto, unfolding(crate::specs::PanelCalls::host_line))]
 pub fn thagaduvin_line(
     shift: i32,
     above: u32,
@@ -76,9 +78,9 @@ pub fn thagaduvin_line(
 ) -> u8
     ensures { answered result answer.new ≡ host_line shift above heights.now rows y answer.old }
 {
-    if answer.len() != 7 {
+    let Some(answer) = answer.as_mut_array() else {
         return 255;
-    }
+    };
     if !line_numbers::is_asked(shift, above, heights, rows) {
         return 255;
     }
@@ -89,6 +91,7 @@ pub fn thagaduvin_line(
 
 // The cells of such a line, in `cells`, from the row that stands still and the row that glides, each with the columns of the window on
 // it, and what is behind the latter's window.
+#[tactic(auto, unfolding(crate::specs::PanelCalls::host_shown))]
 pub fn thagaduvin_shown(
     still: &[u32],
     still_first: u32,

@@ -1,4 +1,5 @@
 -- The calls that change settings and memory: mending and the conversion. A refusal leaves both.
+use Rattle.std.proofs.Common.{Option, Some, None}
 use mathlib.Core.Path.{◌≡◌, refl}
 use mathlib.Core.Bool.{Bool, true, false}
 use mathlib.Core.List.{List, [], ◌∷◌}
@@ -17,8 +18,6 @@ use Rattle.settings.specs.Good.{good}
 use Rattle.windows.specs.Window.{first_window}
 use Rattle.state.specs.declared.State.{State}
 use Rattle.start.specs.Start.{window_start}
-use Rattle.numbers.specs.declared.decode.SettingsIn.{SettingsIn}
-use Rattle.numbers.specs.declared.decode.SettingsIn.TheVariants as Settings-in
 use Rattle.numbers.specs.Decode.{settings_at, settings_in}
 use Rattle.answers.specs.Changing.{Left}
 use Rattle.blame.specs.declared.Verdict.{Verdict}
@@ -61,7 +60,7 @@ module _ (settings m : List ℕ) (latch : ℕ) (answer : List ℕ) (w : Words m)
   unfolding host_mend settings_in mend_step
   mend-reads =
       if-cases Mended (eqb (length answer) 8)
-      (λ e. if-cases (λ (s : SettingsIn). Mended (mend_with settings m latch answer s)) (eqb (length settings) 18)
+      (λ e. if-cases (λ (s : Option Settings). Mended (mend_with settings m latch answer s)) (eqb (length settings) 18)
       (λ _. step-reads (settings_at settings) (registers settings) (room 8 answer e (omega arith)) (verdict-fair (settings_at settings) m w (registers settings) latch))
       (λ _. none_reads))
       (λ _. none_reads)
@@ -151,6 +150,6 @@ module _ (settings m : List ℕ) (marks latch : ℕ) (answer : List ℕ) where
   unfolding host_convert
   convert-reads = if-cases Converted (eqb (length answer) 4) (λ _. by (settings_in settings)) (λ _. none)
     where
-      by : (s : SettingsIn) → Converted (convert_with settings m marks latch answer s)
-      by (Settings-in.Fit σ) = call-reads σ
-      by Settings-in.Unfit = none
+      by : (s : Option Settings) → Converted (convert_with settings m marks latch answer s)
+      by (Some σ) = call-reads σ
+      by None = none

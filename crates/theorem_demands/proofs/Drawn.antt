@@ -1,4 +1,5 @@
 -- An accepted row call: the row that its slices stand for came to its cells and its count by the rules. And the sheet's numbers.
+use Rattle.std.proofs.Common.{Option, Result}
 use mathlib.Core.Path.{◌≡◌, refl, sym, ap, subst, ◌∙◌}
 use mathlib.Core.Bool.{true}
 use mathlib.Core.List.{List, [], ◌∷◌}
@@ -11,12 +12,13 @@ use Rattle.memory.specs.declared.Fault.{Fault}
 use Rattle.memory.specs.Reading.{Outcome, given, refused, run_from, run, asked, done}
 use Rattle.memory.proofs.Laws.{bind-given, bind-refused, step_given, step-refused, run-done}
 use Rattle.memory.proofs.ReadBounds.{Words, if-cases}
+use Rattle.memory.specs.declared.Refusal.{Refusal}
 use Rattle.settings.specs.declared.Settings.{Settings}
-use Rattle.settings.specs.declared.SheetAnswer.{SheetAnswer}
 use Rattle.settings.specs.declared.Field.TheVariants.{Even, Odd}
 use Rattle.settings.specs.Good.{good}
 use Rattle.settings.specs.Timing.{timing, lines_for_rows, clocks, invoking_codes}
 use Rattle.settings.specs.Sheet.{sheet_of, sheet_call}
+use Rattle.settings.specs.declared.Sheet.{Sheet}
 use Rattle.state.specs.declared.State.{State}
 use Rattle.plan.specs.Plan.{Plan, plan}
 use Rattle.codes.specs.Codes.{Drawing, blank}
@@ -25,8 +27,6 @@ use Rattle.row.specs.Row.{Row, code_settings, drawn_by, from_plan, row, with_cur
 use Rattle.row.proofs.RowBound.{row-bound, cursor-length}
 use Rattle.listed.specs.Listed.{unless_refused, RowListed, called_with, row_listed}
 use Rattle.listed.proofs.ListedLaws.{words-asked}
-use Rattle.numbers.specs.declared.decode.SettingsIn.{SettingsIn}
-use Rattle.numbers.specs.declared.decode.StateIn.{StateIn}
 use Rattle.numbers.specs.Decode.{settings_at, settings_in, fields_at, state_at, is_state, state_in}
 use Rattle.answers.specs.AnswerNumbers.{sheet_numbers, row_numbers}
 use Rattle.answers.specs.AfterCall.{Answered, after_sheet}
@@ -150,8 +150,8 @@ module _ (settings m state cells list answer : List ℕ) (w : Words m) where
   unfolding host_row settings_in state_in
   row-by-rules =
       if-cases Right (eqb (length answer) 8)
-      (λ _. if-cases (λ (s : SettingsIn). Right (row_with m state cells list answer s)) (eqb (length settings) 18)
-      (λ _. if-cases (λ (s : StateIn). Right (row_from (settings_at settings) m state cells list answer s)) (is_state state) (λ _. drawn) (λ _ q. absurd (omega (arith, q))))
+      (λ _. if-cases (λ (s : Option Settings). Right (row_with m state cells list answer s)) (eqb (length settings) 18)
+      (λ _. if-cases (λ (s : Option State). Right (row_from (settings_at settings) m state cells list answer s)) (is_state state) (λ _. drawn) (λ _ q. absurd (omega (arith, q))))
       (λ _ q. absurd (omega (arith, q))))
       (λ _ q. absurd (omega (arith, q)))
 
@@ -167,8 +167,8 @@ pub sheet-by-rules : (settings answer : List ℕ) → (host_sheet settings answe
 unfolding host_sheet settings_in sheet_call sheet_of
 sheet-by-rules settings answer =
     if-cases Right (eqb (length answer) 21)
-    (λ _. if-cases (λ (s : SettingsIn). Right (sheet_from answer s)) (eqb (length settings) 18)
-    (λ _. if-cases (λ (a : SheetAnswer). Right (after_sheet answer a)) (good (settings_at settings)) (λ _ q. refl) (λ _ q. absurd (omega (arith, q))))
+    (λ _. if-cases (λ (s : Option Settings). Right (sheet_from answer s)) (eqb (length settings) 18)
+    (λ _. if-cases (λ (a : Result Sheet Refusal). Right (after_sheet answer a)) (good (settings_at settings)) (λ _ q. refl) (λ _ q. absurd (omega (arith, q))))
     (λ _ q. absurd (omega (arith, q))))
     (λ _ q. absurd (omega (arith, q)))
   where

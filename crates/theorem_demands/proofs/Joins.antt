@@ -1,4 +1,5 @@
 -- Effects over slices: what is read from twelve numbers is written back as these twelve, so joined slices are the joined effects'.
+use Rattle.std.proofs.Common.{Option, Some, None}
 use mathlib.Core.Path.{◌≡◌, refl, sym, ap, ◌∙◌}
 use mathlib.Core.Bool.{Bool, true, false, ◌&&◌, ◌||◌}
 use mathlib.Core.List.{List, [], ◌∷◌}
@@ -18,8 +19,6 @@ use Rattle.numbers.specs.Places.{within, any, Below}
 use Rattle.numbers.specs.Decode.{yes}
 use Rattle.numbers.proofs.PlaceLaws.{all-within}
 use Rattle.answers.specs.AfterCall.{Answered, answered}
-use Rattle.effects.specs.declared.decode.EffectIn.{EffectIn}
-use Rattle.effects.specs.declared.decode.EffectIn.TheVariants.{Fit, Unfit}
 use Rattle.effects.specs.EffectNumbers.{effect_limits, part_at, effect_at, of_effect, part_written, effect_written, effect_in, part_numbers, effect_numbers}
 use Rattle.effects.proofs.EffectAgain.{PartFits, effect-again}
 use Rattle.read_back.proofs.Effects.{EffectFits, join-fits}
@@ -94,9 +93,9 @@ twelve (a ∷ b ∷ c ∷ d ∷ e ∷ f ∷ g ∷ h ∷ i ∷ j ∷ []) q = absu
 twelve (a ∷ b ∷ c ∷ d ∷ e ∷ f ∷ g ∷ h ∷ i ∷ j ∷ k ∷ []) q = absurd (omega (arith, q))
 
 -- what is read from a slice fits, and is written as that slice
-abbrev Right : List ℕ → EffectIn → Type 0
-Right xs (Fit e) = (effect_numbers e ≡ xs) × EffectFits e
-Right xs Unfit = Unit {0}
+abbrev Right : List ℕ → Option Effect → Type 0
+Right xs (Some e) = (effect_numbers e ≡ xs) × EffectFits e
+Right xs None = Unit {0}
 
 abbrev clear : List ℕ → Bool
 clear xs = part_written (at xs 0) (at xs 1) (at xs 2) (at xs 3) (at xs 4) (at xs 5)
@@ -110,7 +109,7 @@ right xs =
     if-cases (Right xs) (within effect_limits xs)
     (λ w. if-cases (Right xs) (clear xs && set xs) (λ h. by (all-within effect_limits xs w) (both (clear xs) (set xs) h)) (λ _. tt)) (λ _. tt)
   where
-    by : (length xs ≡ 12) × Below 0 effect_limits xs → (clear xs ≡ true) × (set xs ≡ true) → Right xs (Fit (effect_at xs))
+    by : (length xs ≡ 12) × Below 0 effect_limits xs → (clear xs ≡ true) × (set xs ≡ true) → Right xs (Some (effect_at xs))
     by small h =
         let c = part-back (at xs 0) (at xs 1) (at xs 2) (at xs 3) (at xs 4) (at xs 5)
         (omega (arith, small)) (omega (arith, small)) (omega (arith, small)) (omega (arith, small)) (omega (arith, small)) (omega (arith, small)) h.0 in
@@ -134,18 +133,18 @@ unfolding effect_numbers
 no-effect = refl
 
 -- a join of status 0 read both
-abbrev joins : EffectIn → EffectIn → Answered
-joins (Fit d) e = join_from no_effect d e
-joins Unfit e = answered 255 no_effect
+abbrev joins : Option Effect → Option Effect → Answered
+joins (Some d) e = join_from no_effect d e
+joins None e = answered 255 no_effect
 
-by_read : (xs : List ℕ) (d e : EffectIn) → Right xs e → (joins d e).status ≡ 0 → Holds xs
-by_read xs Unfit e r h = absurd (omega (arith, h))
-by_read xs (Fit d) Unfit r h = absurd (omega (arith, h))
-by_read xs (Fit d) (Fit e) r h = record { effect = e; fits = r.1; is = r.0 }
+by_read : (xs : List ℕ) (d e : Option Effect) → Right xs e → (joins d e).status ≡ 0 → Holds xs
+by_read xs None e r h = absurd (omega (arith, h))
+by_read xs (Some d) None r h = absurd (omega (arith, h))
+by_read xs (Some d) (Some e) r h = record { effect = e; fits = r.1; is = r.0 }
 
-same-join : (xs : List ℕ) (d : EffectIn) → join_with xs no_effect d ≡ joins d (effect_in xs)
-same-join xs (Fit d) = refl
-same-join xs Unfit = refl
+same-join : (xs : List ℕ) (d : Option Effect) → join_with xs no_effect d ≡ joins d (effect_in xs)
+same-join xs (Some d) = refl
+same-join xs None = refl
 
 holds : (xs : List ℕ) → IsEffect xs → Holds xs
 unfolding host_join

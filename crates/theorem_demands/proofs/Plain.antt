@@ -1,5 +1,6 @@
 -- The calls that read no memory: the sheet, the latch, effects joined and applied, texts, the bus report, the writer call, the lines of the
 -- panel and their cells.
+use Rattle.std.proofs.Common.{Option, Some, None, Result}
 use mathlib.Core.Path.{◌≡◌, refl}
 use mathlib.Core.Bool.{Bool, true, false, ◌&&◌}
 use mathlib.Core.List.{List, [], ◌∷◌}
@@ -11,9 +12,11 @@ use lib.Dec.{eqb, leb}
 use Rattle.memory.specs.Word.{when◌then◌else◌, at}
 use Rattle.memory.specs.Reading.{refusal, fault}
 use Rattle.memory.proofs.ReadBounds.{if-cases}
-use Rattle.settings.specs.declared.SheetAnswer.{SheetAnswer}
+use Rattle.memory.specs.declared.Refusal.{Refusal}
 use Rattle.settings.specs.Good.{good}
 use Rattle.settings.specs.Sheet.{sheet_call}
+use Rattle.settings.specs.declared.Sheet.{Sheet}
+use Rattle.settings.specs.declared.Settings.{Settings}
 use Rattle.codes.specs.Attribute.{ignores}
 use Rattle.joining.specs.declared.Part.{Part}
 use Rattle.joining.specs.declared.Part.TheVariants.{Keep, Set, Refuse}
@@ -25,20 +28,15 @@ use Rattle.bus.specs.Bus.{burst_count, added, all_fit, reported}
 use Rattle.bus.specs.Numbers.{totals_at, Called, after_bus}
 use Rattle.writer.specs.declared.Span.{Span}
 use Rattle.writer.specs.Writer.{share, may_write, Wrote, write_word}
+use Rattle.state.specs.declared.State.{State}
 use Rattle.mail.specs.Mail.{mail_text}
 use Rattle.mail.specs.Write.{Mailed, write_mail}
 use Rattle.mail_reader.specs.Reader as Reader
 use Rattle.mail_reader.specs.Read.{ReadBack, answered, read_mail}
 use Rattle.mail_answers.specs.AfterMail.{Lent, after_write, after_read}
-use Rattle.numbers.specs.declared.decode.SettingsIn.{SettingsIn}
-use Rattle.numbers.specs.declared.decode.SettingsIn.TheVariants as Settings-in
-use Rattle.numbers.specs.declared.decode.StateIn.{StateIn}
-use Rattle.numbers.specs.declared.decode.StateIn.TheVariants as State-in
 use Rattle.numbers.specs.Decode.{settings_in, state_in, yes}
 use Rattle.numbers.specs.Places.{within}
 use Rattle.answers.specs.AfterCall.{Answered, after_sheet}
-use Rattle.effects.specs.declared.decode.EffectIn.{EffectIn}
-use Rattle.effects.specs.declared.decode.EffectIn.TheVariants as Effect-in
 use Rattle.effects.specs.EffectNumbers.{effect_limits, part_at, effect_at, part_written, effect_written, effect_in}
 use Rattle.effects.specs.AfterEffect.{after_apply}
 use Rattle.thagaduvin.specs.Calls.{sheet_from, host_sheet, latch_from, host_latch}
@@ -64,11 +62,11 @@ sheet-tells settings answer = if-cases Right (eqb (length answer) 21) (λ e. by 
     Right : Answered → Type 0
     Right x = Tells 0 Refusals.sheet_numbers [] answer (of_answer x)
 
-    by : 3 ≤ length answer → (s : SettingsIn) → Right (sheet_from answer s)
-    by l (Settings-in.Fit σ) =
-        if-cases (λ (a : SheetAnswer). Right (after_sheet answer a)) (good σ) (λ _. accepted-tells _ _)
+    by : 3 ≤ length answer → (s : Option Settings) → Right (sheet_from answer s)
+    by l (Some σ) =
+        if-cases (λ (a : Result Sheet Refusal). Right (after_sheet answer a)) (good σ) (λ _. accepted-tells _ _)
         (λ _. refused-tells refl l (refusal 0 (fault 2)) refl refl)
-    by l Settings-in.Unfit = none-tells
+    by l None = none-tells
 
 -- ---- the latch, and effects joined ----
 
@@ -76,21 +74,21 @@ pub latch-kept : (latch : ℕ) (state answer : List ℕ) → Kept [] [] answer (
 unfolding host_latch
 latch-kept latch state answer = if-cases (λ (x : Answered). Kept [] [] answer (of_answer x)) (eqb (length answer) 4) (λ _. by (state_in state)) (λ _. none_kept)
   where
-    by : (s : StateIn) → Kept [] [] answer (of_answer (latch_from latch answer s))
-    by (State-in.Fit s) = accepted-kept _ _
-    by State-in.Unfit = none_kept
+    by : (s : Option State) → Kept [] [] answer (of_answer (latch_from latch answer s))
+    by (Some s) = accepted-kept _ _
+    by None = none_kept
 
 pub join_kept : (first second joined : List ℕ) → Kept [] [] joined (of_answer (host_join first second joined))
 unfolding host_join
 join_kept first second joined = if-cases (λ (x : Answered). Kept [] [] joined (of_answer x)) (eqb (length joined) 12) (λ _. by (effect_in first)) (λ _. none_kept)
   where
-    from : (d : Effect) (e : EffectIn) → Kept [] [] joined (of_answer (join_from joined d e))
-    from d (Effect-in.Fit e) = accepted-kept _ _
-    from d Effect-in.Unfit = none_kept
+    from : (d : Effect) (e : Option Effect) → Kept [] [] joined (of_answer (join_from joined d e))
+    from d (Some e) = accepted-kept _ _
+    from d None = none_kept
 
-    by : (d : EffectIn) → Kept [] [] joined (of_answer (join_with second joined d))
-    by (Effect-in.Fit d) = from d (effect_in second)
-    by Effect-in.Unfit = none_kept
+    by : (d : Option Effect) → Kept [] [] joined (of_answer (join_with second joined d))
+    by (Some d) = from d (effect_in second)
+    by None = none_kept
 
 -- ---- an effect applied: the row of a part's refusal is its second number ----
 
@@ -99,9 +97,9 @@ RowIs row Keep = Unit {0}
 RowIs row (Set w) = Unit {0}
 RowIs row (Refuse r) = r.row ≡ row
 
-abbrev RowsAre : List ℕ → EffectIn → Type 0
-RowsAre xs (Effect-in.Fit e) = RowIs (at xs 1) e.clear × RowIs (at xs 7) e.set
-RowsAre xs Effect-in.Unfit = Unit {0}
+abbrev RowsAre : List ℕ → Option Effect → Type 0
+RowsAre xs (Some e) = RowIs (at xs 1) e.clear × RowIs (at xs 7) e.set
+RowsAre xs None = Unit {0}
 
 part-row : (number row address from sets word : ℕ) → RowIs row (part_at number row address from sets word)
 part-row number row address from sets word =
@@ -135,14 +133,14 @@ module _ (effect : List ℕ) (latch : ℕ) (answer : List ℕ) where
       if-cases (Applied _) (eqb (length answer) 4)
       (λ e. by (room 4 answer e (omega arith)) (effect_in effect) (effect-listed effect) (rows_are effect)) (λ _. none-tells)
     where
-      for : 3 ≤ length answer → (t : Bool) (e : Effect) → BothListed (Effect-in.Fit e) → RowsAre effect (Effect-in.Fit e)
+      for : 3 ≤ length answer → (t : Bool) (e : Effect) → BothListed (Some e) → RowsAre effect (Some e)
           → Applied (at effect (when t then 7 else 1)) (after_apply answer (apply_part (part_for t e) latch))
       for l false e h k = part-tells l _ e.clear h.0 k.0
       for l true e h k = part-tells l _ e.set h.1 k.1
 
-      by : 3 ≤ length answer → (e : EffectIn) → BothListed e → RowsAre effect e → Applied (at effect (when ignores latch then 7 else 1)) (apply_from latch answer e)
-      by l (Effect-in.Fit e) h k = for l (ignores latch) e h k
-      by l Effect-in.Unfit h k = none-tells
+      by : 3 ≤ length answer → (e : Option Effect) → BothListed e → RowsAre effect e → Applied (at effect (when ignores latch then 7 else 1)) (apply_from latch answer e)
+      by l (Some e) h k = for l (ignores latch) e h k
+      by l None h k = none-tells
 
 -- ---- texts ----
 
@@ -157,14 +155,14 @@ write-mail-silent settings cells text answer = if-cases Right (eqb (length answe
     Mails : Mailed → Type 0
     Mails x = Right (after_write answer x)
 
-    by : (s : SettingsIn) → Right (write_from cells text answer s)
-    by (Settings-in.Fit σ) =
+    by : (s : Option Settings) → Right (write_from cells text answer s)
+    by (Some σ) =
         if-cases Mails (eqb (length cells) 132)
         (λ _. if-cases Mails (good σ)
         (λ _. if-cases Mails (leb (length (mail_text σ cells)) (length text)) (λ _. accepted-silent _ _) (λ _. refused-silent refl 23 refl))
         (λ _. refused-silent refl 2 refl))
         (λ _. refused-silent refl 1 refl)
-    by Settings-in.Unfit = none-silent
+    by None = none-silent
 
 pub read-mail-kept : (text cells answer : List ℕ) → Kept Refusals.read_mail_numbers (cells ∷ []) answer (of_text (host_read_mail text cells answer))
 unfolding host_read_mail read_mail

@@ -1,4 +1,5 @@
 -- The calls that read memory, by the numbers at their places: a start, a row, a row beside the cut, a shift, a row's effect.
+use Rattle.std.proofs.Common.{Option, Some, None}
 use mathlib.Core.Path.{◌≡◌, refl, subst}
 use mathlib.Core.Bool.{Bool, true, false, ◌&&◌}
 use mathlib.Core.List.{List, [], ◌∷◌}
@@ -24,10 +25,6 @@ use Rattle.listed.specs.Listed.{StartListed, RowListed, row_listed}
 use Rattle.listed_beside.specs.ListedBeside.{BesideListed, beside_listed}
 use Rattle.joining.specs.declared.Part.{Part}
 use Rattle.effect.specs.Effect.{part_of, latch_with, outcome_for, effect_call}
-use Rattle.numbers.specs.declared.decode.SettingsIn.{SettingsIn}
-use Rattle.numbers.specs.declared.decode.SettingsIn.TheVariants as Settings-in
-use Rattle.numbers.specs.declared.decode.StateIn.{StateIn}
-use Rattle.numbers.specs.declared.decode.StateIn.TheVariants as State-in
 use Rattle.numbers.specs.Decode.{settings_in, state_in, state_at, fields_at, is_state}
 use Rattle.answers.specs.AnswerNumbers.{row_numbers}
 use Rattle.answers.specs.AfterCall.{Stated}
@@ -73,22 +70,22 @@ module _ (settings m : List ℕ) (latch : ℕ) (state list answer : List ℕ) wh
       if-cases Started (eqb (length state) 23 && eqb (length answer) 4)
       (λ e. by (room 4 answer (both (eqb (length state) 23) (eqb (length answer) 4) e).1 (omega arith)) (settings_in settings)) (λ _. none_reads)
     where
-      by : 3 ≤ length answer → (s : SettingsIn) → Started (start_from m latch state list answer s)
-      by l (Settings-in.Fit σ) = start-by l (start-ends latch σ m list) (start-listed-told latch σ m list)
-      by l Settings-in.Unfit = none_reads
+      by : 3 ≤ length answer → (s : Option Settings) → Started (start_from m latch state list answer s)
+      by l (Some σ) = start-by l (start-ends latch σ m list) (start-listed-told latch σ m list)
+      by l None = none_reads
 
 -- ---- a row ----
 
 -- a state that is read is that of its numbers, and its row is number 1
-pub read-state : (xs : List ℕ) {s : State} → state_in xs ≡ State-in.Fit s → s ≡ state_at xs
+pub read-state : (xs : List ℕ) {s : State} → state_in xs ≡ Some s → s ≡ state_at xs
 unfolding state_in
 read-state xs {s} e = by (is_state xs) e
   where
-    by : (t : Bool) → (when t then State-in.Fit (state_at xs) else State-in.Unfit) ≡ State-in.Fit s → s ≡ state_at xs
+    by : (t : Bool) → (when t then Some (state_at xs) else None) ≡ Some s → s ≡ state_at xs
     by true e = cc
     by false e = let z : ◌≡◌ {A = ℕ} 0 1 = cc in absurd (omega arith)
 
-row_of : (xs : List ℕ) {s : State} → state_in xs ≡ State-in.Fit s → s.fields.row ≡ at xs 1
+row_of : (xs : List ℕ) {s : State} → state_in xs ≡ Some s → s.fields.row ≡ at xs 1
 unfolding fields_at
 row_of xs e = rw (read-state xs e)
 
@@ -106,15 +103,15 @@ module _ (settings m state cells list answer : List ℕ) where
   unfolding host_row
   row_reads = if-cases Drawn (eqb (length answer) 8) (λ e. by (room 8 answer e (omega arith)) (settings_in settings)) (λ _. none_reads)
     where
-      from : 3 ≤ length answer → (σ : Settings) (s : StateIn) → state_in state ≡ s → Drawn (row_from σ m state cells list answer s)
-      from l σ (State-in.Fit s) e =
+      from : 3 ≤ length answer → (σ : Settings) (s : Option State) → state_in state ≡ s → Drawn (row_from σ m state cells list answer s)
+      from l σ (Some s) e =
           let ends = subst (λ (n : ℕ). RowEnds m n cells list (row_listed σ m s cells list)) (row_of state e) (row_ends σ m s cells list) in
           row_by l ends (row-listed-told σ m s cells list)
-      from l σ State-in.Unfit e = none_reads
+      from l σ None e = none_reads
 
-      by : 3 ≤ length answer → (s : SettingsIn) → Drawn (row_with m state cells list answer s)
-      by l (Settings-in.Fit σ) = from l σ (state_in state) refl
-      by l Settings-in.Unfit = none_reads
+      by : 3 ≤ length answer → (s : Option Settings) → Drawn (row_with m state cells list answer s)
+      by l (Some σ) = from l σ (state_in state) refl
+      by l None = none_reads
 
 -- ---- the row beside the cut ----
 
@@ -138,10 +135,10 @@ module _ (settings m : List ℕ) (shift : ℤ) (soft : PointerWords) (latch : �
       let x = beside_listed σ m shift soft latch s cells list in
       beside-by l (subst (λ (n : ℕ). BesideEnds m n cells list x) q (beside-ends σ m shift soft latch s cells list)) (beside-told σ m shift soft latch s cells list)
 
-  up : lt_z (pos 0) shift ≡ true → 3 ≤ length answer → (σ : Settings) (s : StateIn) → state_in state ≡ s
+  up : lt_z (pos 0) shift ≡ true → 3 ≤ length answer → (σ : Settings) (s : Option State) → state_in state ≡ s
       → BesideOf (at state 1) (below_state σ m shift soft latch cells list answer s)
-  up t l σ (State-in.Fit s) e = from-state l σ s (rw t (row_of state e))
-  up t l σ State-in.Unfit e = none_reads
+  up t l σ (Some s) e = from-state l σ s (rw t (row_of state e))
+  up t l σ None e = none_reads
 
   down : lt_z (pos 0) shift ≡ false → 3 ≤ length answer → (σ : Settings) → BesideOf 0 (after_beside answer (beside_listed σ m shift soft latch no_state cells list))
   down t l σ = from-state l σ no_state (rw t)
@@ -156,9 +153,9 @@ module _ (settings m : List ℕ) (shift : ℤ) (soft : PointerWords) (latch : �
       way l σ true t = up t l σ (state_in state) refl
       way l σ false t = down t l σ
 
-      by : 3 ≤ length answer → (s : SettingsIn) → Beside (beside_with m shift soft latch state cells list answer s)
-      by l (Settings-in.Fit σ) = way l σ (lt_z (pos 0) shift) refl
-      by l Settings-in.Unfit = none_reads
+      by : 3 ≤ length answer → (s : Option Settings) → Beside (beside_with m shift soft latch state cells list answer s)
+      by l (Some σ) = way l σ (lt_z (pos 0) shift) refl
+      by l None = none_reads
 
 -- ---- a shift, which has no list ----
 
@@ -179,9 +176,9 @@ module _ (settings m : List ℕ) (soft : PointerWords) (scroll answer : List ℕ
           let checks = shift-refuses σ soft (scroll_of scroll) in
           refused-reads refl refl l (refusal 0 x) refl (run-number Refusals.shift_numbers m checks refl refl e) (run-missed m checks refl e)
 
-      by : 3 ≤ length answer → (s : SettingsIn) → Shifted (shift_from m soft scroll answer s)
-      by l (Settings-in.Fit σ) = ends l σ (run m (shift σ soft (scroll_of scroll))) refl
-      by l Settings-in.Unfit = none_reads
+      by : 3 ≤ length answer → (s : Option Settings) → Shifted (shift_from m soft scroll answer s)
+      by l (Some σ) = ends l σ (run m (shift σ soft (scroll_of scroll))) refl
+      by l None = none_reads
 
 -- ---- the effect of a row: its refusals are in its parts ----
 
@@ -207,10 +204,10 @@ module _ (settings m state effect : List ℕ) where
           → Outside m (part_numbers (part_of f (outcome_for σ m f ignore))).number (part_numbers (part_of f (outcome_for σ m f ignore))).address
       part σ f ignore = part-missed f (run-missing {ns = 2 ∷ 17 ∷ 3 ∷ 4 ∷ drawing_checks} refl 0 m (row-refuses σ (state_of (latch_with ignore) f) (any-state refl f) refl refl))
 
-      from : (σ : Settings) (s : StateIn) → Effected (effect_from σ m state effect s)
-      from σ (State-in.Fit s) = record { kept = accepted-kept _ _; missed = λ _. (part σ s.fields false, part σ s.fields true) }
-      from σ State-in.Unfit = none
+      from : (σ : Settings) (s : Option State) → Effected (effect_from σ m state effect s)
+      from σ (Some s) = record { kept = accepted-kept _ _; missed = λ _. (part σ s.fields false, part σ s.fields true) }
+      from σ None = none
 
-      by : (s : SettingsIn) → Effected (effect_with m state effect s)
-      by (Settings-in.Fit σ) = from σ (state_in state)
-      by Settings-in.Unfit = none
+      by : (s : Option Settings) → Effected (effect_with m state effect s)
+      by (Some σ) = from σ (state_in state)
+      by None = none

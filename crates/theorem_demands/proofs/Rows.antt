@@ -1,4 +1,5 @@
 -- Starts, rows and rows beside the cut, with their lists: what each comes to, whatever its numbers' places are.
+use Rattle.std.proofs.Common.{Ok, Err, Some, None}
 use mathlib.Core.Path.{◌≡◌, refl, sym, ap, ◌∙◌}
 use mathlib.Core.Bool.{Bool, true, false}
 use mathlib.Core.List.{List, ◌∷◌}
@@ -18,12 +19,9 @@ use Rattle.settings.specs.declared.PointerWords.{PointerWords}
 use Rattle.settings.specs.declared.Settings.{Settings}
 use Rattle.state.specs.declared.State.{State}
 use Rattle.state.specs.State.{state_of}
-use Rattle.start.specs.declared.StartAnswer.TheVariants as Start
 use Rattle.start.specs.Start.{first_fields, window_start, start_from, started, start_call}
-use Rattle.row.specs.declared.RowAnswer.TheVariants as Row
 use Rattle.row.specs.declared.DrawnRow.{DrawnRow}
 use Rattle.row.specs.Row.{Row, row, called, answered, row_call}
-use Rattle.beside.specs.declared.BesideAnswer.TheVariants as Beside
 use Rattle.beside.specs.declared.BesideRow.{BesideRow}
 use Rattle.beside.specs.Beside.{BesideCalled, told_call, with_one_line, with_top, after_start, row_above}
 use Rattle.listed.specs.Listed.{unless_refused, list_after, StartListed, start_with, start_listed, RowListed, row_with, called_with, row_listed}
@@ -44,18 +42,18 @@ row-checks σ s = row-refuses σ s (any-state refl s.fields) refl refl
 
 -- refused with the list and the row buffer as they were, or accepted with a list of addresses that are inside memory
 pub data StartEnds (m list : List ℕ) : StartListed → Type 0 where
-  start-refused : (r : Refusal) → r.row ≡ 0 → Outside m r.number r.address → StartEnds m list (start_with (Start.Refused r) list)
-  start-given : (n : ℕ) (s : State) (l : List ℕ) → Inside m n l → StartEnds m list (start_with (Start.Accepted (record { words = n; state = s })) l)
+  start-refused : (r : Refusal) → r.row ≡ 0 → Outside m r.number r.address → StartEnds m list (start_with (Err r) list)
+  start-given : (n : ℕ) (s : State) (l : List ℕ) → Inside m n l → StartEnds m list (start_with (Ok (record { words = n; state = s })) l)
 
 pub data RowEnds (m : List ℕ) (number : ℕ) (cells list : List ℕ) : RowListed → Type 0 where
-  row-refused : (r : Refusal) → r.row ≡ number → Outside m r.number r.address → RowEnds m number cells list (row_with (Row.Refused r) cells list)
-  row-drawn : (d : DrawnRow) (b l : List ℕ) → Inside m d.words l → RowEnds m number cells list (row_with (Row.Accepted d) b l)
+  row-refused : (r : Refusal) → r.row ≡ number → Outside m r.number r.address → RowEnds m number cells list (row_with (Err r) cells list)
+  row-drawn : (d : DrawnRow) (b l : List ℕ) → Inside m d.words l → RowEnds m number cells list (row_with (Ok d) b l)
 
 pub data BesideEnds (m : List ℕ) (number : ℕ) (cells list : List ℕ) : BesideListed → Type 0 where
-  no_row : BesideEnds m number cells list (beside_with Beside.Absent cells list)
+  no_row : BesideEnds m number cells list (beside_with (Ok None) cells list)
   beside-refused : (r : Refusal) → r.row ≡ number → Outside m r.number r.address
-      → BesideEnds m number cells list (beside_with (Beside.Refused r) cells list)
-  beside-drawn : (d : BesideRow) (b l : List ℕ) → Inside m d.words l → BesideEnds m number cells list (beside_with (Beside.Drawn d) b l)
+      → BesideEnds m number cells list (beside_with (Err r) cells list)
+  beside-drawn : (d : BesideRow) (b l : List ℕ) → Inside m d.words l → BesideEnds m number cells list (beside_with (Ok (Some d)) b l)
 
 -- ---- a start ----
 
@@ -79,7 +77,7 @@ unfolding row_call
 right σ m s cells e = rw e
 
 wrong : (σ : Settings) (m : List ℕ) (s : State) (cells : List ℕ) → eqb (length cells) 132 ≡ false
-    → row_call σ m s cells ≡ called (Row.Refused (refusal s.fields.row (fault 1))) cells
+    → row_call σ m s cells ≡ called (Err (refusal s.fields.row (fault 1))) cells
 unfolding row_call
 wrong σ m s cells e = rw e
 
@@ -156,7 +154,7 @@ unfolding beside_listed below_listed
 beside-ends σ m shift soft latch last cells list = by (lt_z (pos 0) shift)
   where
     down : BesideListed
-    down = when lt_z shift (pos 0) then above_listed (with_top σ soft) m latch cells list else beside_with Beside.Absent cells list
+    down = when lt_z shift (pos 0) then above_listed (with_top σ soft) m latch cells list else beside_with (Ok None) cells list
 
     by : (t : Bool) → BesideEnds m (when t then last.fields.row else 0) cells list
         (when t then told_listed (row_listed σ m (state_of last.latch (with_one_line last.fields)) cells list) else down)

@@ -1,7 +1,7 @@
 -- The user's three demands, in the user's words and order, of the seventeen calls in C that a console runs. Each call is a definition over the
 -- slices of numbers that it is lent, of any counts and with any numbers, and the exported function equals it. A slice that the definition does
 -- not give back is lent to be read, and stays.
-use Rattle.std.specs.Prelude.{ℕ, ◌/◌, ◌<◌, ◌≤◌, ◌≡◌, true, List, [], ◌∷◌, ℤ, pos, length, drop}
+use Rattle.std.specs.Prelude.{ℕ, ◌/◌, ◌<◌, ◌≤◌, ◌≡◌, true, List, [], ◌∷◌, ℤ, pos, length, drop, Option, Some}
 use Rattle.std.specs.Int.Signed.{lt_z}
 use Rattle.memory.specs.Word.{when◌then◌else◌, at}
 use Rattle.memory.specs.Reading.{given, run, asked}
@@ -10,8 +10,6 @@ use Rattle.settings.specs.declared.Settings.{Settings}
 use Rattle.settings.specs.declared.Field.TheVariants.{Even, Odd}
 use Rattle.settings.specs.Timing.{timing, lines_for_rows, clocks, invoking_codes}
 use Rattle.windows.specs.declared.Window.{Window}
-use Rattle.windows.specs.declared.WindowInHand.{WindowInHand}
-use Rattle.windows.specs.declared.WindowInHand.TheVariants.{Present}
 use Rattle.state.specs.declared.State.{State}
 use Rattle.plan.specs.Plan.{Plan, plan}
 use Rattle.codes.specs.Attribute.{ignores, source_of, window_number_of}
@@ -186,10 +184,10 @@ pub record Demand1 : Type 0 where
 -- the rules make." ----
 
 -- a cell's "one source": 0 is fill, 1 background, 2 the window in hand on this row, whose number the cell has; others have 0 there
-pub record OneSource (row : ℕ) (in_hand : WindowInHand) (cell : ℕ) : Type 0 where
+pub record OneSource (row : ℕ) (in_hand : Option Window) (cell : ℕ) : Type 0 where
   pub among : source_of cell ≤ 2
   pub window : source_of cell ≡ 2
-      → (w : Window) × (in_hand ≡ Present w) × (window_number_of cell ≡ w.block.number) × (w.block.top ≤ row) × (row ≤ w.block.bottom)
+      → (w : Window) × (in_hand ≡ Some w) × (window_number_of cell ≡ w.block.number) × (w.block.top ≤ row) × (row ≤ w.block.bottom)
   pub elsewhere : (source_of cell ≡ 2 → ⊥) → window_number_of cell ≡ 0
 
 -- an accepted row, by the settings and the state that its slices hold

@@ -1,4 +1,5 @@
 -- Blocks and windows that are read through pointers that stand give pointers that stand, and ask for no word but through these.
+use Rattle.std.proofs.Common.{Option, Some, None}
 use mathlib.Core.Path.{refl}
 use mathlib.Core.Bool.{Bool, true, false, ◌&&◌}
 use mathlib.Core.List.{List}
@@ -15,9 +16,8 @@ use Rattle.blocks.specs.declared.RowFormat.{RowFormat}
 use Rattle.blocks.specs.declared.Segment.{Segment}
 use Rattle.blocks.specs.Main.{main_block, main_block_at}
 use Rattle.blocks.specs.RowBlock.{RowBlock, segment_of, segments_at, segment_roles, segments_from, rest_of_block, block_at, redefined}
-use Rattle.windows.specs.declared.WindowInHand.{WindowInHand}
-use Rattle.windows.specs.declared.WindowInHand.TheVariants.{Absent, Present}
 use Rattle.windows.specs.Window.{window_of, two_pointers, in_order, window_at, due_window}
+use Rattle.windows.specs.declared.Window.{Window}
 use Rattle.told.specs.Told.{Reached}
 use Rattle.holding.proofs.Holds.{Each, dones, bind, as-holds, check-then, if-holds}
 use Rattle.told.proofs.Tells.{Tells}
@@ -84,9 +84,9 @@ module _ (σ : Settings) (m : List ℕ) where
   main-tells p r = bind (as-holds (λ _ _ h. h) (λ _ _ _ h. h) one_pointer (words-tell σ m 7 p r)) λ b c. dones (pointer-stands σ m p.address 0 7 b c.copied (lit< tt))
 
   -- a window in hand
-  abbrev pub WindowStands : WindowInHand → Type 0
-  WindowStands Absent = Unit
-  WindowStands (Present w) = Stands σ m w.block.link × Stands σ m w.rows
+  abbrev pub WindowStands : Option Window → Type 0
+  WindowStands None = Unit
+  WindowStands (Some w) = Stands σ m w.block.link × Stands σ m w.rows
 
   pub window-tells : (number least : ℕ) (p : Pointer) → Stands σ m p → Says WindowStands (window_at σ.linear number least p)
   unfolding window_at window_of ahead
@@ -97,7 +97,7 @@ module _ (σ : Settings) (m : List ℕ) where
       check-then 8 p (in_order w && leb least w.top) (λ _. refl) λ _ _.
       dones (pointer-stands σ m p.address 0 6 b c.copied (lit< tt), pointer-stands σ m p.address 2 6 b c.copied (lit< tt))
 
-  pub due-tells : (row : ℕ) (w : WindowInHand) → WindowStands w → Says WindowStands (due_window σ.linear row w)
+  pub due-tells : (row : ℕ) (w : Option Window) → WindowStands w → Says WindowStands (due_window σ.linear row w)
   unfolding due_window
-  due-tells row Absent s = dones tt
-  due-tells row (Present w) s = if-holds (ltb w.block.bottom row) (λ _. window-tells _ _ w.block.link s.0) λ _. dones s
+  due-tells row None s = dones tt
+  due-tells row (Some w) s = if-holds (ltb w.block.bottom row) (λ _. window-tells _ _ w.block.link s.0) λ _. dones s

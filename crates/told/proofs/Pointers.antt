@@ -1,4 +1,5 @@
 -- Pointers that are held. What is read through one stands in memory word for word, so that the pointers among these words are held too.
+use Rattle.std.proofs.Common.{Some}
 use mathlib.Core.Path.{◌≡◌, refl, ap, sym, ◌∙◌}
 use mathlib.Core.Bool.{Bool, true, false}
 use mathlib.Core.List.{List, ◌∷◌}
@@ -8,7 +9,6 @@ use lib.ListN.{drop}
 use lib.Seq.{get_or-drop}
 use lib.Dec.{ltb}
 use borrow.Author.Tests.{ltb-true, ltb-false}
-use Rattle.memory.specs.declared.Fetch.TheVariants.{Word}
 use Rattle.memory.specs.declared.Pointer.{Pointer}
 use Rattle.memory.specs.Word.{when◌then◌else◌, at}
 use Rattle.memory.specs.Reading.{◌>>=◌, fetch}
@@ -44,8 +44,8 @@ no_words true from = refl
 no_words false from = refl
 
 -- a word that is there leads one word further
-module _ (linear : Bool) (m : List ℕ) (a b : ℕ) (h : Leads linear m a b) {w : ℕ} (f : fetch m b ≡ Word w) where
-  there-too : (j : ℕ) (c : Bool) → ltb j h.steps ≡ c → j < h.steps + 1 → (v : ℕ) × (fetch m (ahead linear j a) ≡ Word v)
+module _ (linear : Bool) (m : List ℕ) (a b : ℕ) (h : Leads linear m a b) {w : ℕ} (f : fetch m b ≡ Some w) where
+  there-too : (j : ℕ) (c : Bool) → ltb j h.steps ≡ c → j < h.steps + 1 → (v : ℕ) × (fetch m (ahead linear j a) ≡ Some v)
   there-too j true e l = h.before j (ltb-true j h.steps e)
   there-too j false e l =
       let last : j ≡ h.steps = omega (arith, ltb-false j h.steps e) in
@@ -78,7 +78,7 @@ module _ (σ : Settings) (m : List ℕ) where
   }
 
   -- one word further, where the word is there
-  pub onward-reached : (p : Pointer) {w : ℕ} → Reached σ m p → fetch m p.address ≡ Word w → Reached σ m (onward σ.linear p)
+  pub onward-reached : (p : Pointer) {w : ℕ} → Reached σ m p → fetch m p.address ≡ Some w → Reached σ m (onward σ.linear p)
   onward-reached p r h = record {
     in_use = r.in_use;
     not_null = r.not_null;
@@ -89,7 +89,7 @@ module _ (σ : Settings) (m : List ℕ) where
 
   -- k words of a list stand in memory, the first at the address a
   abbrev pub Copied : ℕ → ℕ → List ℕ → Type 0
-  Copied a k ws = (i : ℕ) → i < k → fetch m (ahead σ.linear i a) ≡ Word (at ws i)
+  Copied a k ws = (i : ℕ) → i < k → fetch m (ahead σ.linear i a) ≡ Some (at ws i)
 
   -- k words from a pointer on: they stand there, and the word after them is reached
   pub record Passed (p : Pointer) (k : ℕ) (ws : List ℕ) : Type 0 where
@@ -104,14 +104,14 @@ module _ (σ : Settings) (m : List ℕ) where
       bind (words-tell k (onward σ.linear p) (onward-reached p r h)) λ ws c.
       dones (record { copied = more w ws h c.copied; after = c.after })
     where
-      more : (w : ℕ) (ws : List ℕ) → fetch m p.address ≡ Word w → Copied (next_word σ.linear p.address) k ws → Copied p.address (suc k) (w ∷ ws)
+      more : (w : ℕ) (ws : List ℕ) → fetch m p.address ≡ Some w → Copied (next_word σ.linear p.address) k ws → Copied p.address (suc k) (w ∷ ws)
       more w ws h c zero l = h
       more w ws h c (suc i) l = c i (omega arith)
 
   -- the rest of the words, from word j on
   pub copied-drop : (a j k : ℕ) (ws : List ℕ) → Copied a (j + k) ws → Copied (ahead σ.linear j a) k (drop j ws)
   copied-drop a j k ws c i l =
-      ap (fetch m) (ahead-add σ.linear j i a) ∙ c (j + i) (omega arith) ∙ ap Word (sym (get_or-drop j ws i 0))
+      ap (fetch m) (ahead-add σ.linear j i a) ∙ c (j + i) (omega arith) ∙ ap Some (sym (get_or-drop j ws i 0))
 
   -- the pointer whose two words are word i and the next of a list that stands in memory
   pub pointer-stands : (a i k : ℕ) (ws : List ℕ) → Copied a k ws → i + 1 < k

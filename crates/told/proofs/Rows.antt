@@ -1,4 +1,5 @@
 -- A start's state has pointers that stand, and a row keeps them: its next state's stand too. Neither asks for a word but through these.
+use Rattle.std.proofs.Common.{Option, Some, None}
 use mathlib.Core.Path.{refl}
 use mathlib.Core.Bool.{true, false, not, ◌&&◌}
 use mathlib.Core.List.{List}
@@ -8,8 +9,6 @@ use Rattle.memory.specs.Reading.{nobody}
 use Rattle.memory.specs.Address.{null}
 use Rattle.settings.specs.declared.Settings.{Settings}
 use Rattle.settings.specs.Good.{good, check_settings}
-use Rattle.windows.specs.declared.WindowInHand.{WindowInHand}
-use Rattle.windows.specs.declared.WindowInHand.TheVariants.{Absent, Present}
 use Rattle.windows.specs.Window.{first_window}
 use Rattle.blocks.specs.RowBlock.{row_block_at, window_row_at}
 use Rattle.state.specs.declared.Fields.{Fields}
@@ -20,6 +19,7 @@ use Rattle.layout.specs.Overlay.{Overlaid, window_row, overlaid}
 use Rattle.background.specs.Background.{background_block, background_row}
 use Rattle.plan.specs.Plan.{Plan, next_fields, plan}
 use Rattle.codes.specs.Codes.{blank}
+use Rattle.windows.specs.declared.Window.{Window}
 use Rattle.start.specs.Top.{registered, enabled, of_window, top_block}
 use Rattle.start.specs.Start.{first_fields, window_start, start_from}
 use Rattle.row.specs.Row.{row}
@@ -63,10 +63,10 @@ module _ (σ : Settings) (m : List ℕ) where
     overlay : EachOver (Pointed σ m) o.overlay
     window : WindowStands σ m o.window
 
-  overlaid-tells : (row : ℕ) (w : WindowInHand) → WindowStands σ m w → Says σ m Shown (overlaid σ row w)
+  overlaid-tells : (row : ℕ) (w : Option Window) → WindowStands σ m w → Says σ m Shown (overlaid σ row w)
   unfolding overlaid window_row window_row_at
-  overlaid-tells row Absent s = dones (record { overlay = tt; window = tt })
-  overlaid-tells row (Present w) s =
+  overlaid-tells row None s = dones (record { overlay = tt; window = tt })
+  overlaid-tells row (Some w) s =
       if-holds (leb w.block.top row && leb row w.block.bottom)
       (λ _. bind (block-tells σ m false w.rows s.1) λ b h.
       check-then 9 w.rows (all_fit b.segments) (λ _. refl) λ _ _.

@@ -1,4 +1,5 @@
 -- Readings on a memory: what holds of each word asked for and of the result. One law for each way to make a reading of others.
+use Rattle.std.proofs.Common.{Some, None}
 use mathlib.Core.Path.{◌≡◌, refl, sym, ◌∙◌}
 use mathlib.Core.Bool.{Bool, true, false, not, true≢false}
 use mathlib.Core.List.{List}
@@ -7,7 +8,6 @@ use lib.ListN.{length, get_or}
 use lib.Dec.{ltb, eqb}
 use borrow.Author.Tests.{eq-eqb}
 use Rattle.memory.specs.declared.Fault.{Fault}
-use Rattle.memory.specs.declared.Fetch.TheVariants.{Word, Absent}
 use Rattle.memory.specs.declared.Pointer.{Pointer}
 use Rattle.memory.specs.Reading.{Ask, Reading, fetch, Outcome, given, refused, run_from}
 use Rattle.memory.proofs.ReadBounds.{if-cases}
@@ -30,7 +30,7 @@ abbrev pub Asked : (Pointer → Type 0) → Ask → Type 0
 Asked Q q = Q (due q)
 
 abbrev pub Found : List ℕ → Ask → ℕ → Type 0
-Found m q w = fetch m q.address ≡ Word w
+Found m q w = fetch m q.address ≡ Some w
 
 abbrev pub Own : Fault → Type 0
 Own x = eqb x.number 7 ≡ false
@@ -41,7 +41,7 @@ Tells m Q P p = Holds (Asked Q) (Found m) Own P p
 -- what it comes to: a refusal 7 is the word that was not there
 pub data Ends {A : Type 0} (m : List ℕ) (Q : Pointer → Type 0) (P : A → Type 0) : Outcome A → Type 0 where
   gives : {k : ℕ} {a : A} → P a → Ends m Q P (given k a)
-  tells : {x : Fault} → (x.number ≡ 7 → Q (record { address = x.address; from = x.from }) × (fetch m x.address ≡ Absent)) → Ends m Q P (refused x)
+  tells : {x : Fault} → (x.number ≡ 7 → Q (record { address = x.address; from = x.from }) × (fetch m x.address ≡ None)) → Ends m Q P (refused x)
 
 pub run_ends : {A : Type 0} {Q : Pointer → Type 0} {P : A → Type 0} (m : List ℕ) (n : ℕ) {p : Reading A} → Tells m Q P p → Ends m Q P (run_from n m p)
 unfolding run_from

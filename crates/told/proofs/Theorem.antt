@@ -1,5 +1,6 @@
 -- What a refusal 7 of a frame tells is true: the start's pointers stand, each row keeps them so, and the word that is not there was asked
 -- for through one of these.
+use Rattle.std.proofs.Common.{None}
 use mathlib.Core.Path.{◌≡◌, ap, sym, subst, ◌∙◌}
 use mathlib.Core.List.{List}
 use mathlib.Core.Option.{Option, none, some}
@@ -9,7 +10,6 @@ use lib.ListN.{length}
 use lib.Dec.{eqb}
 use borrow.Author.Tests.{eq-eqb}
 use Rattle.memory.specs.declared.Fault.{Fault}
-use Rattle.memory.specs.declared.Fetch.TheVariants.{Absent}
 use Rattle.memory.specs.declared.Pointer.{Pointer}
 use Rattle.memory.specs.declared.Refusal.{Refusal}
 use Rattle.memory.specs.Reading.{fetch, Outcome, refusal}
@@ -34,7 +34,7 @@ module _ (σ : Settings) (m : List ℕ) where
   abbrev Fair : Refusal → Type 0
   Fair r = r.number ≡ 7 → TrueRefusal σ m r
 
-  fair : (row : ℕ) (x : Fault) → (x.number ≡ 7 → Reached σ m (record { address = x.address; from = x.from }) × (fetch m x.address ≡ Absent))
+  fair : (row : ℕ) (x : Fault) → (x.number ≡ 7 → Reached σ m (record { address = x.address; from = x.from }) × (fetch m x.address ≡ None))
       → Fair (refusal row x)
   fair row x h e = rw (eq-eqb x.number 7 e) (record { reached = (h e).0; missing = (h e).1 })
 

@@ -1,4 +1,5 @@
 -- One call is the lemma of two memories that agree on the words read; of an accepted row the list has the addresses of these words.
+use Rattle.std.proofs.Common.{Ok, Err}
 use mathlib.Core.Path.{◌≡◌, refl, sym, subst, ◌∙◌}
 use mathlib.Core.Bool.{Bool, true, false, ◌&&◌}
 use mathlib.Core.List.{List, []}
@@ -13,7 +14,6 @@ use Rattle.memory.proofs.Agree.{All, none, SameWord}
 use Rattle.settings.specs.declared.Settings.{Settings}
 use Rattle.state.specs.declared.State.{State}
 use Rattle.row.specs.declared.DrawnRow.{DrawnRow}
-use Rattle.row.specs.declared.RowAnswer.TheVariants as Row
 use Rattle.row.specs.Row.{Row, row, Called, called, answered, row_call}
 use Rattle.listed.specs.Listed as Listed
 use Rattle.listed.specs.Listed.{unless_refused, list_after, called_with, row_with, RowListed, row_listed}
@@ -28,7 +28,7 @@ use Rattle.two_desks.proofs.CallLaws.{listed_same, answer-same, read_same}
 
 module _ (σ : Settings) (s : State) (buffer list m : List ℕ) where
   -- what a reading that was accepted reads stands in the first places of the list, as many as its words
-  read-list : (o : Outcome Row) → run m (row σ s) ≡ o → (r : DrawnRow) → (answered σ s.fields buffer o).answer ≡ Row.Accepted r
+  read-list : (o : Outcome Row) → run m (row σ s) ≡ o → (r : DrawnRow) → (answered σ s.fields buffer o).answer ≡ Ok r
       → words_read m (row σ s) ≡ take r.words (unless_refused o (asked m (row σ s)) list)
   unfolding Listed.written
   read-list (given n x) e r a =
@@ -41,25 +41,25 @@ module _ (σ : Settings) (s : State) (buffer list m : List ℕ) where
   -- the call, by the two tests on its buffers
   abbrev tried : Bool → Bool → RowListed
   tried t u =
-      let c : Called = when t then answered σ s.fields buffer (run m (row σ s)) else called (Row.Refused (refusal s.fields.row (fault 1))) buffer in
+      let c : Called = when t then answered σ s.fields buffer (run m (row σ s)) else called (Err (refusal s.fields.row (fault 1))) buffer in
       when t
-      then (when u then called_with c (list_after m (row σ s) list) else row_with (Row.Refused (refusal s.fields.row (fault 25))) buffer list)
+      then (when u then called_with c (list_after m (row σ s) list) else row_with (Err (refusal s.fields.row (fault 25))) buffer list)
       else called_with c list
 
   -- .. and one refused 1 or 25 reads nothing
-  by_size : (P : ℕ → Type 0) (r : DrawnRow) (t u : Bool) → (tried t u).answer ≡ Row.Accepted r
+  by_size : (P : ℕ → Type 0) (r : DrawnRow) (t u : Bool) → (tried t u).answer ≡ Ok r
       → ((a : ℕ) → a ∈ take r.words (tried t u).list → P a) → All P (when t && u then words_read m (row σ s) else [])
   by_size P r true true e h =
       every (words_read m (row σ s)) λ a i. h a (subst (λ (l : List ℕ). a ∈ l) (read-list (run m (row σ s)) refl r e) i)
   by_size P r true false e h = none
   by_size P r false u e h = none
 
-  read_all : (P : ℕ → Type 0) (r : DrawnRow) → (row_listed σ m s buffer list).answer ≡ Row.Accepted r
+  read_all : (P : ℕ → Type 0) (r : DrawnRow) → (row_listed σ m s buffer list).answer ≡ Ok r
       → ((a : ℕ) → a ∈ take r.words (row_listed σ m s buffer list).list → P a) → All P (sized buffer list (words_read m (row σ s)))
   unfolding row_listed row_call
   read_all P r e h = by_size P r (eqb (length buffer) 132) (eqb (length list) 12000) e h
 
-  row_stays : (ws : List Write) (r : DrawnRow) → (row_listed σ m s buffer list).answer ≡ Row.Accepted r
+  row_stays : (ws : List Write) (r : DrawnRow) → (row_listed σ m s buffer list).answer ≡ Ok r
       → Untouched ws (take r.words (row_listed σ m s buffer list).list)
       → row_listed σ (written m ws) s buffer list ≡ row_listed σ m s buffer list
   row_stays ws r e h =

@@ -1,5 +1,6 @@
 -- The memory among the other desk's calls and the memory of the desk alone have one length and the same words outside the other's span: each
 -- call keeps that, and so each call of the desk that reads no word of that span gets the same in both.
+use Rattle.std.proofs.Common.{Ok}
 use mathlib.Core.Path.{◌≡◌, refl, sym, ap, ap₂, subst, ◌∙◌}
 use mathlib.Core.Bool.{Bool, true, false}
 use mathlib.Core.List.{List, [], ◌∷◌, ◌++◌}
@@ -13,7 +14,6 @@ use Rattle.memory.specs.Word.{when◌then◌else◌}
 use Rattle.memory.proofs.Agree.{All, SameWord}
 use Rattle.state.specs.declared.State.{State}
 use Rattle.writer.specs.declared.Span.{Span}
-use Rattle.writer.specs.declared.WriteAnswer.TheVariants.{Written}
 use Rattle.writer.specs.Writer.{inside, share, may_write, wrote, refused_with, write_word}
 use Rattle.writer.proofs.WriterLaws.{Inside, may-inside, Changed, same, word, changed, in_both}
 use Rattle.frame.specs.Frame.{frame}
@@ -81,8 +81,8 @@ module _ (span : Span) where
     where
       by-test : (t u : Bool) → may_write own a (length m₁) ≡ u
           → Apart
-          (when t then wrote (refused_with 16) m₁ else when u then wrote Written (set m₁ (a / 2) w) else wrote (refused_with 15) m₁).memory
-          (when t then wrote (refused_with 16) m₂ else when u then wrote Written (set m₂ (a / 2) w) else wrote (refused_with 15) m₂).memory
+          (when t then wrote (refused_with 16) m₁ else when u then wrote (Ok tt) (set m₁ (a / 2) w) else wrote (refused_with 15) m₁).memory
+          (when t then wrote (refused_with 16) m₂ else when u then wrote (Ok tt) (set m₂ (a / 2) w) else wrote (refused_with 15) m₂).memory
       by-test true u e = h
       by-test false true e = set_both (a / 2) w (may-inside own a (length m₁) e).within h
       by-test false false e = h

@@ -1,4 +1,5 @@
 -- One call on two memories of one length that agree on the words that it reads: the same answer, and the same addresses.
+use Rattle.std.proofs.Common.{Ok}
 use mathlib.Core.Path.{◌≡◌, refl, ap, ap₂}
 use mathlib.Core.Bool.{Bool, true, false, ◌&&◌}
 use mathlib.Core.List.{List, []}
@@ -25,7 +26,6 @@ use Rattle.desks.proofs.ReadLaws.{read-outcome, read_asked, read-words}
 use Rattle.desks.proofs.Same.{row_same}
 use Rattle.desks.proofs.Depends.{above_same, beside-depends}
 use Rattle.writer.specs.declared.Span.{Span}
-use Rattle.writer.specs.declared.WriteAnswer.TheVariants.{Written}
 use Rattle.writer.specs.Writer.{share, may_write, wrote, refused_with, write_word}
 use Rattle.two_desks.specs.DeskCalls as Calls
 use Rattle.two_desks.specs.DeskCalls.{Call, sized, read_by, answer}
@@ -106,8 +106,8 @@ module _ (m₁ m₂ : List ℕ) (len : length m₁ ≡ length m₂) where
   write_same own other a w = rw len (by-test (share own other) (may_write own a (length m₂)))
     where
       by-test : (t u : Bool)
-          → (when t then wrote (refused_with 16) m₁ else when u then wrote Written (set m₁ (a / 2) w) else wrote (refused_with 15) m₁).answer
-          ≡ (when t then wrote (refused_with 16) m₂ else when u then wrote Written (set m₂ (a / 2) w) else wrote (refused_with 15) m₂).answer
+          → (when t then wrote (refused_with 16) m₁ else when u then wrote (Ok tt) (set m₁ (a / 2) w) else wrote (refused_with 15) m₁).answer
+          ≡ (when t then wrote (refused_with 16) m₂ else when u then wrote (Ok tt) (set m₂ (a / 2) w) else wrote (refused_with 15) m₂).answer
       by-test true u = refl
       by-test false true = refl
       by-test false false = refl

@@ -1,5 +1,6 @@
 -- The condition of two desks can be met, and it is needed: a computed example of each. Between the forecaster's start and its row the
 -- supervisor writes a word: in the first example one that the forecaster does not read, in the second the count of its row block.
+use Rattle.std.proofs.Common.{None, Ok}
 use Prim.Native.Nat.{ℕ, ◌*◌, ◌/◌}
 use mathlib.Core.Path.{◌≡◌, refl, sym, ap, subst, ◌∙◌}
 use mathlib.Core.Bool.{Bool, true, false, not, ◌&&◌}
@@ -15,7 +16,6 @@ use Rattle.settings.specs.declared.Interlace.TheVariants.{Progressive}
 use Rattle.settings.specs.declared.Settings.{Settings}
 use Rattle.settings.specs.Good.{good, check_settings}
 use Rattle.settings.specs.Timing.{lines_for_rows}
-use Rattle.windows.specs.declared.WindowInHand.TheVariants.{Absent}
 use Rattle.blocks.specs.Main.{main_block, main_block_at}
 use Rattle.blocks.specs.RowBlock.{segment_of, segments_at, segment_roles, rest_of_block, block_at, row_block_at, redefined}
 use Rattle.windows.specs.Window as W
@@ -31,7 +31,6 @@ use Rattle.start.specs.Start.{first_fields, window_start, start_from, start_call
 use Rattle.row.specs.Row as Rows
 use Rattle.listed.specs.Listed.{start_listed, row_listed, written}
 use Rattle.writer.specs.declared.Span.{Span}
-use Rattle.writer.specs.declared.WriteAnswer.TheVariants.{Written}
 use Rattle.writer.specs.Writer.{inside, write_word}
 use Rattle.desks.specs.Finds.{in_memory}
 use Rattle.desks.specs.Depends.{here, there}
@@ -77,7 +76,7 @@ states d = S.state_of 0 (record {
   fill = record { code = 0; flag = false };
   format = record { lines = 1; attributes = 0; curs = 0; cure = 31 };
   next = to 0 0;
-  window = Absent;
+  window = None;
 })
 
 pub action : Desk → Call → Action
@@ -101,7 +100,7 @@ by_itself a = reads (in_turn (spans a) memory states (alone forecaster (actions 
 -- The forecaster's start reads its main block, its row the row block. A count of 1 written there between the two makes the row read two
 -- words of a segment too, whose third is missing.
 pub computed : (in_turns 22 ≡ 2 ∷ 4 ∷ 6 ∷ 8 ∷ 10 ∷ 12 ∷ 14 ∷ 16 ∷ 18 ∷ 20 ∷ [])
-    × ((write_word memory (spans 22 supervisor) (spans 22 forecaster) 22 1).answer ≡ Written)
+    × ((write_word memory (spans 22 supervisor) (spans 22 forecaster) 22 1).answer ≡ (Ok tt))
     × (in_turns 20 ≡ 2 ∷ 4 ∷ 6 ∷ 8 ∷ 10 ∷ 12 ∷ 14 ∷ 16 ∷ 18 ∷ 20 ∷ 22 ∷ 24 ∷ [])
     × (by_itself 20 ≡ 2 ∷ 4 ∷ 6 ∷ 8 ∷ 10 ∷ 12 ∷ 14 ∷ 16 ∷ 18 ∷ 20 ∷ [])
 unfolding settings memory spans states action actions in_turns by_itself in_turn gets alone reads read_by in_memory answer state_after memory_after start_listed row_listed written start_call write_word good check_settings lines_for_rows pointer next_word ahead words read_as ◌>>=◌ each run_from asked main_block main_block_at segment_of segments_at segment_roles rest_of_block block_at row_block_at redefined W.window_at W.first_window W.due_window S.window_in_range S.in_range total all_fit edges_fit window_row overlaid next_fields background_block background_row plan codes fill_by_word fill_to segment segments_to row_cells top_block first_fields window_start start_from Rows.row Rows.row_call

@@ -1,10 +1,9 @@
 -- Which rows to draw again: the statement. The user's complaint is a routine that redraws single rows by guessing. A console that keeps of
 -- each row its state before, its cells and its list knows which rows a write cannot have changed.
-use Rattle.std.specs.Prelude.{ℕ, ◌/◌, ◌≡◌, List, length, take}
+use Rattle.std.specs.Prelude.{ℕ, ◌/◌, ◌≡◌, List, length, take, Ok}
 use Rattle.settings.specs.declared.Settings.{Settings}
 use Rattle.state.specs.declared.State.{State}
 use Rattle.row.specs.declared.DrawnRow.{DrawnRow}
-use Rattle.row.specs.declared.RowAnswer.TheVariants as Row
 use Rattle.listed.specs.Listed.{row_listed}
 use Rattle.writer.specs.declared.Span.{Span}
 use Rattle.desks.specs.Depends.{◌∈◌, SameAt, Write, written}
@@ -22,6 +21,6 @@ pub record Again : Type 0 where
   -- An accepted row leaves these addresses in its list, as many as its words: writes to none of them leave the row as it was. A refused
   -- row leaves no list, so nothing is said of it here: it is called again.
   pub row : (σ : Settings) (s : State) (buffer list m : List ℕ) (ws : List Write) (r : DrawnRow)
-      → (row_listed σ m s buffer list).answer ≡ Row.Accepted r
+      → (row_listed σ m s buffer list).answer ≡ Ok r
       → Untouched ws (take r.words (row_listed σ m s buffer list).list)
       → row_listed σ (written m ws) s buffer list ≡ row_listed σ m s buffer list

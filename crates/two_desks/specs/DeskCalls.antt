@@ -1,24 +1,22 @@
 -- The calls of a desk: what each answers on the memory that it finds, which words it reads, and what it leaves.
-use Rattle.std.specs.Prelude.{ℕ, ◌&&◌, List, [], ℤ, length, eqb}
+use Rattle.std.specs.Prelude.{ℕ, ◌&&◌, List, [], ℤ, length, eqb, Result, Ok, Err}
 use Rattle.memory.specs.Word.{when◌then◌else◌}
+use Rattle.memory.specs.declared.Refusal.{Refusal}
 use Rattle.settings.specs.declared.PointerWords.{PointerWords}
 use Rattle.settings.specs.declared.Settings.{Settings}
 use Rattle.state.specs.declared.State.{State}
-use Rattle.start.specs.declared.StartAnswer.{StartAnswer}
-use Rattle.start.specs.declared.StartAnswer.TheVariants as Start
 use Rattle.start.specs.Start.{start_from}
-use Rattle.row.specs.declared.RowAnswer.{RowAnswer}
-use Rattle.row.specs.declared.RowAnswer.TheVariants as Row
 use Rattle.row.specs.Row as Rows
 use Rattle.scroll.specs.declared.Scroll.{Scroll}
-use Rattle.scroll.specs.declared.ShiftAnswer.{ShiftAnswer}
 use Rattle.scroll.specs.Scroll as Scrolls
 use Rattle.listed.specs.Listed.{StartListed, start_listed, RowListed, row_listed}
 use Rattle.listed_beside.specs.ListedBeside.{BesideListed, beside_listed}
 use Rattle.desks.specs.Finds.{words_read, beside_read}
 use Rattle.writer.specs.declared.Span.{Span}
-use Rattle.writer.specs.declared.WriteAnswer.{WriteAnswer}
 use Rattle.writer.specs.Writer.{write_word}
+use Rattle.start.specs.declared.Started.{Started}
+use Rattle.scroll.specs.declared.FrameShift.{FrameShift}
+use Rattle.row.specs.declared.DrawnRow.{DrawnRow}
 
 -- What a desk calls: a start from a latch; a row; a shift call; the row beside the cut; a writer call. Settings, buffers and lists are
 -- those of the call, of any size; the state is the desk's.
@@ -33,9 +31,9 @@ pub data Call : Type 0 where
 pub data Answer : Type 0 where
   started : StartListed → Answer
   drawn : RowListed → Answer
-  shifted : ShiftAnswer → Answer
+  shifted : Result FrameShift Refusal → Answer
   besides : BesideListed → Answer
-  wrote : WriteAnswer → Answer
+  wrote : Result (Unit {0}) Refusal → Answer
 
 -- the addresses of the words that a call reads: none where 1 or 25 refuses it
 abbrev pub sized : (buffer list : List ℕ) → List ℕ → List ℕ
@@ -56,13 +54,13 @@ answer own other m s (beside σ z soft latch buffer list) = besides (beside_list
 answer own other m s (write a w) = wrote (write_word m own other a w).answer
 
 -- the state after it: an accepted start's, or an accepted row's next one; else as it was
-abbrev pub after_start : State → StartAnswer → State
-after_start s (Start.Accepted a) = a.state
-after_start s (Start.Refused r) = s
+abbrev pub after_start : State → Result Started Refusal → State
+after_start s (Ok a) = a.state
+after_start s (Err r) = s
 
-abbrev pub after_row : State → RowAnswer → State
-after_row s (Row.Accepted r) = r.next
-after_row s (Row.Refused r) = s
+abbrev pub after_row : State → Result DrawnRow Refusal → State
+after_row s (Ok r) = r.next
+after_row s (Err r) = s
 
 unfoldable pub state_after : State → Answer → State
 state_after s (started a) = after_start s a.answer

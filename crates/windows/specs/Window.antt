@@ -1,13 +1,11 @@
 -- Document 01, "Blocks" and "A row, left to right": window blocks, and the window in hand.
-use Rattle.std.specs.Prelude.{ℕ, ◌+◌, Bool, ◌&&◌, List, [], ◌∷◌, ltb, leb}
+use Rattle.std.specs.Prelude.{ℕ, ◌+◌, Bool, ◌&&◌, List, [], ◌∷◌, ltb, leb, Option, Some, None}
 use Rattle.memory.specs.Word.{when◌then◌else◌, high, low, at}
 use Rattle.memory.specs.declared.Pointer.{Pointer}
 use Rattle.memory.specs.Reading.{Role, First, Second, Reading, done, ◌>>=◌, ◌>>◌, read_as, check_of}
 use Rattle.memory.specs.Address.{pointer, null, ahead, words}
 use Rattle.windows.specs.declared.WindowBlock.{WindowBlock}
 use Rattle.windows.specs.declared.Window.{Window}
-use Rattle.windows.specs.declared.WindowInHand.{WindowInHand}
-use Rattle.windows.specs.declared.WindowInHand.TheVariants.{Absent, Present}
 
 -- "Window (6). Link to the next window block (2); first window row block (2); first row high byte, last row low; first
 -- column high byte, last column low." Its number is that "along the chain, from 0" (02): each block that was read counts. The
@@ -35,21 +33,21 @@ in_order b = leb b.top b.bottom && leb b.left b.right && leb b.right 131
 
 -- Refusal 8: "first row > last, first row <= the last row of the one before, first column > last, last column > 131". The
 -- row after the last row of the one before is `least`, 0 where there is none.
-unfoldable pub window_at : Bool → ℕ → ℕ → Pointer → Reading WindowInHand
-window_at linear number least p = when null p then done Absent else do
+unfoldable pub window_at : Bool → ℕ → ℕ → Pointer → Reading (Option Window)
+window_at linear number least p = when null p then done None else do
   b ← read_as two_pointers (words linear 6 p)
   let w = window_of linear number p.address b
   check_of 8 p (in_order w.block && leb least w.block.top)
-  done (Present w)
+  done (Some w)
 
 -- "The first window block is read at the start."
-unfoldable pub first_window : Bool → Pointer → Reading WindowInHand
+unfoldable pub first_window : Bool → Pointer → Reading (Option Window)
 first_window linear p = window_at linear 0 0 p
 
 -- "When the row number has passed a window's last row, the next block, and no more, is read before the row."
-unfoldable pub due_window : Bool → ℕ → WindowInHand → Reading WindowInHand
-due_window linear row Absent = done Absent
-due_window linear row (Present w) =
+unfoldable pub due_window : Bool → ℕ → Option Window → Reading (Option Window)
+due_window linear row None = done None
+due_window linear row (Some w) =
     when ltb w.block.bottom row
     then window_at linear (w.block.number + 1) (w.block.bottom + 1) w.block.link
-    else done (Present w)
+    else done (Some w)

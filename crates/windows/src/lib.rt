@@ -5,10 +5,10 @@ ghost use Rattle.memory.specs.Reading.{run};
 ghost use Rattle.windows.specs.Window.{window_of, in_order, window_at, first_window, due_window};
 ghost use Rattle.windows.specs.Answers.{window_read, Numbered};
 
-use memory::{Fault, Pointer, WordsRead};
+use memory::{Fault, Pointer};
 
 // What a window keeps while it is in hand: its number along the chain, its rows and columns, first and last, and the next window block.
-#[derive(Clone, Copy)]
+#[derive(Clone, Copy, PartialEq, Eq)]
 pub struct WindowBlock {
     pub number: u8,
     pub top: u8,
@@ -19,53 +19,51 @@ pub struct WindowBlock {
 }
 
 // A window: its block, and its next row block.
-#[derive(Clone, Copy)]
+#[derive(Clone, Copy, PartialEq, Eq)]
 pub struct Window {
     pub block: WindowBlock,
     pub rows: Pointer,
 }
 
-// The window in hand, or that there is none.
-#[derive(Clone, Copy)]
-pub enum WindowInHand {
-    Absent,
-    Present(Window),
-}
-
 // The window in hand with the words read for it, or a refusal.
 #[derive(Clone, Copy)]
-pub enum WindowRead {
-    Read { window: WindowInHand, words: u32 },
-    Refused(Fault),
+pub struct WindowRead {
+    pub window: Option<Window>,
+    pub words: u32,
 }
 
 // The first window, from the pointer to its block.
-pub fn first_window(mem: &[u16], linear: bool, p: Pointer) -> WindowRead
+pub fn first_window(mem: &[u16], linear: bool, p: Pointer) -> Result<WindowRead, Fault>
     ensures { window_read result ≡ run mem.now (first_window linear p) }
 {
     window_at(mem, linear, 0, 0, p)
 }
 
 // The window in hand for a row: the next one where the row has passed the last row of this one.
-pub fn due_window(mem: &[u16], linear: bool, row: u32, in_hand: WindowInHand) -> WindowRead
+pub fn due_window(
+    mem: &[u16],
+    linear: bool,
+    row: u32,
+    in_hand: Option<Window>,
+) -> Result<WindowRead, Fault>
     requires { Numbered in_hand }
     ensures { window_read result ≡ run mem.now (due_window linear row in_hand) }
 {
     match in_hand {
-        WindowInHand::Absent => WindowRead::Read {
-            window: WindowInHand::Absent,
+        None => Ok(WindowRead {
+            window: None,
             words: 0,
-        },
-        WindowInHand::Present(w) => {
+        }),
+        Some(w) => {
             if (w.block.bottom as u32) < row {
                 let link = w.block.link;
                 let number = w.block.number as u16 + 1;
                 window_at(mem, linear, number, w.block.bottom as u32 + 1, link)
             } else {
-                WindowRead::Read {
-                    window: WindowInHand::Present(w),
+                Ok(WindowRead {
+                    window: Some(w),
                     words: 0,
-                }
+                })
             }
         }
     }
@@ -80,31 +78,33 @@ pub fn in_order(b: WindowBlock) -> bool
 
 // The window whose block a pointer leads to, none where that is null; its first row is `least` or a later one. A number is at most
 // `least`, so it fits eight bits where the window may follow.
-fn window_at(mem: &[u16], linear: bool, number: u16, least: u32, p: Pointer) -> WindowRead
+fn window_at(
+    mem: &[u16],
+    linear: bool,
+    number: u16,
+    least: u32,
+    p: Pointer,
+) -> Result<WindowRead, Fault>
     requires { number ≤ least }
     ensures { window_read result ≡ run mem.now (window_at linear number least p) }
 {
     if p.address == 0 {
-        return WindowRead::Read {
-            window: WindowInHand::Absent,
+        return Ok(WindowRead {
+            window: None,
             words: 0,
-        };
+        });
     }
     let mut b = [0u16; 6];
-    match memory::read_words(mem, linear, p, &mut b) {
-        WordsRead::Whole => {
-            let w = window_of(linear, memory::low_byte(number), p.address, &b);
-            let block = w.block;
-            if may_follow(least, block) {
-                WindowRead::Read {
-                    window: WindowInHand::Present(w),
-                    words: 6,
-                }
-            } else {
-                WindowRead::Refused(memory::blame(8, p))
-            }
-        }
-        WordsRead::Refused(fault) => WindowRead::Refused(fault),
+    memory::read_words(mem, linear, p, &mut b)?;
+    let w = window_of(linear, memory::low_byte(number), p.address, &b);
+    let block = w.block;
+    if may_follow(least, block) {
+        Ok(WindowRead {
+            window: Some(w),
+            words: 6,
+        })
+    } else {
+        Err(memory::blame(8, p))
     }
 }
 

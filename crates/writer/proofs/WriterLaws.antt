@@ -1,4 +1,5 @@
 -- The three ways through a writer call.
+use Rattle.std.proofs.Common.{Ok}
 use mathlib.Core.Path.{◌≡◌, refl}
 use mathlib.Core.Bool.{Bool, true, false, ◌&&◌}
 use mathlib.Core.List.{List}
@@ -11,7 +12,6 @@ use native.Mathlib.Omega.{arith}
 use Rattle.memory.specs.Word.{when◌then◌else◌}
 use Rattle.memory.proofs.ReadBounds.{both}
 use Rattle.writer.specs.declared.Span.{Span}
-use Rattle.writer.specs.declared.WriteAnswer.TheVariants.{Written}
 use Rattle.writer.specs.Writer.{inside, share, may_write, wrote, refused_with, write_word}
 
 module _ (m : List ℕ) (own other : Span) (a w : ℕ) where
@@ -23,7 +23,7 @@ module _ (m : List ℕ) (own other : Span) (a w : ℕ) where
   unfolding write_word
   write-outside e h = rw (e, h)
 
-  pub write-inside : share own other ≡ false → may_write own a (length m) ≡ true → write_word m own other a w ≡ wrote Written (set m (a / 2) w)
+  pub write-inside : share own other ≡ false → may_write own a (length m) ≡ true → write_word m own other a w ≡ wrote (Ok tt) (set m (a / 2) w)
   unfolding write_word
   write-inside e h = rw (e, h)
 
@@ -54,12 +54,12 @@ module _ (m : List ℕ) (own other : Span) (a w : ℕ) where
   changed = by-share (share own other)
     where
       by-write : (t : Bool) → may_write own a (length m) ≡ t
-          → Changed (when t then wrote Written (set m (a / 2) w) else wrote (refused_with 15) m).memory
+          → Changed (when t then wrote (Ok tt) (set m (a / 2) w) else wrote (refused_with 15) m).memory
       by-write true e = word (may-inside own a (length m) e)
       by-write false e = same
 
       by-share : (t : Bool)
-          → Changed (when t then wrote (refused_with 16) m else when may_write own a (length m) then wrote Written (set m (a / 2) w) else wrote (refused_with 15) m).memory
+          → Changed (when t then wrote (refused_with 16) m else when may_write own a (length m) then wrote (Ok tt) (set m (a / 2) w) else wrote (refused_with 15) m).memory
       by-share true = same
       by-share false = by-write (may_write own a (length m)) refl
 

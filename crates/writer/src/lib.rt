@@ -1,7 +1,7 @@
 #![tactic(auto)]
 // The writer call of two desks on one memory: one word, in the writer's own span.
 ghost use Rattle.std.specs.Prelude.{◌≡◌};
-ghost use Rattle.writer.specs.Writer.{share, may_write, wrote, refused_with, write_word};
+ghost use Rattle.writer.specs.Writer.{share, may_write, wrote, write_word};
 
 use memory::Refusal;
 
@@ -12,32 +12,24 @@ pub struct Span {
     pub last: u32,
 }
 
-// What a writer call answers: the word is written, or a refusal, 16 or 15, and nothing is.
-#[derive(Clone, Copy)]
-pub enum WriteAnswer {
-    Written,
-    Refused(Refusal),
-}
-
 // Writes one word at an address of the writer's span `own`; `other` is the other desk's.
-pub fn write_word(mem: &mut [u16], own: Span, other: Span, address: u32, word: u16) -> WriteAnswer
+pub fn write_word(
+    mem: &mut [u16],
+    own: Span,
+    other: Span,
+    address: u32,
+    word: u16,
+) -> Result<(), Refusal>
     ensures { wrote result mem.new ≡ write_word mem.old own other address word }
 {
     if share(own, other) {
-        return refused(16);
+        return memory::refused(16);
     }
     if may_write(own, address, mem.len()) {
         mem[(address / 2) as usize] = word;
-        return WriteAnswer::Written;
+        return Ok(());
     }
-    refused(15)
-}
-
-// A refusal, which is met in no row and tells no address.
-fn refused(number: u8) -> WriteAnswer
-    ensures { result ≡ refused_with number }
-{
-    WriteAnswer::Refused(memory::refusal_of(0, memory::fault_of(number)))
+    memory::refused(15)
 }
 
 // Whether two spans share an address.

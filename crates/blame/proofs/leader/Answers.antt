@@ -3,14 +3,14 @@ use borrow.Author.Tests.{lt-ltb, le-ltb}
 use Rattle.blame.specs.Blame.{leader}
 use Rattle.blame.proofs.leader.Goals as goal
 
-pub returns-in-Absent : goal.returns-in-Absent
+pub returns-in-Some : goal.returns-in-Some
 unfolding leader
-returns-in-Absent c = rw c.in-Absent.is
+returns-in-Some c = rw (c.in-Some.is, lt-ltb _ _ c.if-w-row.true)
 
-pub returns-then-w-row : goal.returns-then-w-row
+pub returns-in_default : goal.returns-in_default
 unfolding leader
-returns-then-w-row c = rw (c.in-Present.is, lt-ltb _ _ c.if-w-row.true)
+returns-in_default c = rw (c.in-Some.is, le-ltb _ _ c.if-w-row.false)
 
-pub returns-else-w-row : goal.returns-else-w-row
+pub returns-in_default-2 : goal.returns-in_default-2
 unfolding leader
-returns-else-w-row c = rw (c.in-Present.is, le-ltb _ _ c.if-w-row.false)
+returns-in_default-2 c = rw c.in_default.is

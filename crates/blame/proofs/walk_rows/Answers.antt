@@ -7,7 +7,7 @@ use Rattle.blame.proofs.walk_rows.Goals as goal
 pub loop-state-smaller : goal.loop-state-smaller
 loop-state-smaller c =
     let a = c.args in
-    next-fewer a.settings a.mem.now (λ i. (c.type_inv.mem i).fits) c.loop-state.led c.loop-state.state (rw c.in-Next.is at c.walk_row.ensures)
+    next-fewer a.settings a.mem.now (λ i. (c.type_inv.mem i).fits) c.loop-state.led c.loop-state.state (rw c.in-Ok.is at c.walk_row.ensures)
 
 pub loop-state-preserved : goal.loop-state-preserved
 loop-state-preserved c =
@@ -15,15 +15,15 @@ loop-state-preserved c =
     let l = c.loop-state in
     rw c.leader-led.ensures
     (l.invariant ∙ next-rows a.settings a.mem.now (λ i. (c.type_inv.mem i).fits) l.led l.state (λ e. omega arith)
-    (rw c.in-Next.is at c.walk_row.ensures))
+    (rw c.in-Ok.is at c.walk_row.ensures))
 
-pub returns-in-Refused : goal.returns-in-Refused
-returns-in-Refused c =
+pub returns-in-Err : goal.returns-in-Err
+returns-in-Err c =
     let a = c.args in
     let l = c.loop-state in
     rw (c.judged.ensures, c.leader-led.ensures)
     (sym (l.invariant ∙ refused-rows a.settings a.mem.now (λ i. (c.type_inv.mem i).fits) l.led l.state (λ e. omega arith)
-    (rw c.in-Refused.is at c.walk_row.ensures)))
+    (rw c.in-Err.is at c.walk_row.ensures)))
 
 pub returns : goal.returns
 returns c =

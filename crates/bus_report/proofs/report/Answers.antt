@@ -8,4 +8,4 @@ pub returns : goal.returns
 unfolding output
 returns g c =
     printed (λ rs. outcome_text (burst_of rs)) (λ rs qs n. refl) output (λ bytes. refl) c.print.result _ _ c.read_image-script.ensures.taken
-    c.print.ensures
+    c.begin-text.ensures c.print.ensures

@@ -11,18 +11,18 @@ pub overflow_cast-result : goal.overflow_cast-result
 overflow_cast-result c =
     let a = c.args in
     let words : Words a.mem.now = λ i. (c.type_inv.mem i).fits in
-    let k = begun-small a.settings a.mem.now words (sym (rw c.in-Begun.is at c.begin.ensures)) in
+    let k = begun-small a.settings a.mem.now words (sym (rw c.in-Ok.is at c.begin.ensures)) in
     omega arith
 
-pub returns-in-Begun : goal.returns-in-Begun
-returns-in-Begun c =
+pub returns-in-Ok : goal.returns-in-Ok
+returns-in-Ok c =
     let a = c.args in
     let words : Words a.mem.now = λ i. (c.type_inv.mem i).fits in
-    rw c.none.ensures (begun-text a.settings a.mem.now words a.burst (sym (rw c.in-Begun.is at c.begin.ensures)))
+    rw c.none.ensures (begun-text a.settings a.mem.now words a.burst (sym (rw c.in-Ok.is at c.begin.ensures)))
 
-pub returns-in-Refused : goal.returns-in-Refused
+pub returns-in-Err : goal.returns-in-Err
 unfolding to_come
-returns-in-Refused c =
+returns-in-Err c =
     let a = c.args in
     let words : Words a.mem.now = λ i. (c.type_inv.mem i).fits in
-    refused-text a.settings a.mem.now words a.burst (sym (rw c.in-Refused.is at c.begin.ensures))
+    refused-text a.settings a.mem.now words a.burst (sym (rw c.in-Err.is at c.begin.ensures))

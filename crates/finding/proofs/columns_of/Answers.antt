@@ -2,14 +2,14 @@
 use Rattle.picture.specs.Picture.{columns_of}
 use Rattle.finding.proofs.columns_of.Goals as goal
 
-pub returns-in-Absent : goal.returns-in-Absent
+pub returns-in-None : goal.returns-in-None
 unfolding columns_of
-returns-in-Absent c = rw c.in-Absent.is c.no_columns.ensures
+returns-in-None c = rw c.in-None.is c.no_columns.ensures
 
 pub returns-then-block-number : goal.returns-then-block-number
 unfolding columns_of
-returns-then-block-number c = rw (c.in-Present.is, c.if-block-number.true)
+returns-then-block-number c = rw (c.in-Some.is, c.if-block-number.true)
 
 pub returns-else-block-number : goal.returns-else-block-number
 unfolding columns_of
-returns-else-block-number c = rw (c.in-Present.is, c.if-block-number.false) c.no_columns-else-block-number.ensures
+returns-else-block-number c = rw (c.in-Some.is, c.if-block-number.false) c.no_columns-else-block-number.ensures

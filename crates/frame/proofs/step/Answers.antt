@@ -11,16 +11,16 @@ returns-then-state-eq0 c =
     let a = c.args in
     record { fewer_lines = tt; buffer_after = rw c.bound_words-words.ensures.value (sym (no_line a.settings a.mem.now (in_bound a.progress) a.buffer.now c.if-state-eq0.true)) }
 
-pub returns-in-Refused : goal.returns-in-Refused
-returns-in-Refused c =
+pub returns-in-Err : goal.returns-in-Err
+returns-in-Err c =
     let a = c.args in
-    let e = rw c.in-Refused.is at c.row.ensures.buffer_after in
+    let e = rw c.in-Err.is at c.row.ensures.buffer_after in
     record { fewer_lines = tt; buffer_after = by_row a.settings a.mem.now (in_bound a.progress) a.buffer.now c.if-state-eq0.false e }
 
-pub returns-in-Accepted : goal.returns-in-Accepted
-returns-in-Accepted c =
+pub returns-in-Ok : goal.returns-in-Ok
+returns-in-Ok c =
     let a = c.args in
-    let e = rw c.in-Accepted.is at c.row.ensures.buffer_after in
+    let e = rw c.in-Ok.is at c.row.ensures.buffer_after in
     let is = by_row a.settings a.mem.now (in_bound a.progress) a.buffer.now c.if-state-eq0.false e in
     let words : Words a.mem.now = λ i. (c.type_inv.mem i).fits in
     rw c.bound_words-words.ensures.value

@@ -4,4 +4,4 @@ use Rattle.glide_text.proofs.shifted.Goals as goal
 
 pub returns : goal.returns
 unfolding shifted
-returns c = rw c.with_top-script.ensures
+returns c = rw c.with_top-settings.ensures

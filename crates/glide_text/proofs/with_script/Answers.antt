@@ -4,4 +4,4 @@ use Rattle.glide_text.proofs.with_script.Goals as goal
 
 pub returns : goal.returns
 unfolding with_script
-returns c = rw c.soft_after-soft.ensures
+returns c = rw c.soft_after.ensures

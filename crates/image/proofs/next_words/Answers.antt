@@ -16,7 +16,7 @@ pub returns : goal.returns
 returns c =
     let a = c.args in
     let p = c.put_words in
-    let e = c.end_of-end in
+    let end = c.min-end.result in
     let out = c.put_words.new.out in
     let h : p.result ≤ length out = c.put_words.ensures.0 in
-    λ rs. words-piece rs a.mem.now a.from e.result p.result out h (sym (length-take-le _ _ h)) c.end_of-end.ensures.0 c.end_of-end.ensures.2 c.put_words.ensures.1
+    λ rs. words-piece rs a.mem.now a.from end p.result out h (sym (length-take-le _ _ h)) (omega arith) (omega arith) c.put_words.ensures.1

@@ -12,14 +12,13 @@ pub loop-i-preserved : goal.loop-i-preserved
 loop-i-preserved c =
     let p = c.put_register-at in
     let l = c.loop-i in (
-      omega arith,
       search rules,
       omega arith,
-      value-more register_record c.args.registers.now _ (take l.at l.out) (take p.result c.put_register-at.new.out) l.i (omega arith) l.invariant.3 c.put_register-at.ensures.1,
+      value-more register_record c.args.registers.now _ (take l.at l.out) (take p.result c.put_register-at.new.out) l.i (omega arith) l.invariant.2 c.put_register-at.ensures.1,
     )
 
 pub returns : goal.returns
 returns c =
     let l = c.loop-i in
     let registers = c.args.registers.now in
-    (omega arith, sym (append-nil _) ∙ (rw (no-values register_record registers l.i c.loop-i-test.false) at l.invariant.3))
+    (omega arith, sym (append-nil _) ∙ (rw (no-values register_record registers l.i (omega arith)) at l.invariant.2))

@@ -12,14 +12,13 @@ loop-i-preserved c =
     let p = c.put_word-at in
     let l = c.loop-i in
     let m = c.args.mem.now in (
-      omega arith,
       search rules,
       omega arith,
-      value-more word_record m _ (take l.at l.out) (take p.result c.put_word-at.new.out) l.i (omega arith) l.invariant.3 c.put_word-at.ensures.1,
+      value-more word_record m _ (take l.at l.out) (take p.result c.put_word-at.new.out) l.i (omega arith) l.invariant.2 c.put_word-at.ensures.1,
     )
 
 pub returns : goal.returns
 returns c =
     let l = c.loop-i in
     let e : l.i ≡ c.args.end = omega arith in
-    (omega arith, rw e at l.invariant.3)
+    (omega arith, rw e at l.invariant.2)

@@ -1,5 +1,5 @@
 -- The parts come in the order of the walk; what is told is then what the drawing makes of the latch.
-use mathlib.Core.Path.{◌≡◌, ◌∙◌}
+use mathlib.Core.Path.{◌≡◌, refl, ◌∙◌}
 use Rattle.blocks.specs.RowBlock.{segments_of}
 use Rattle.layout.specs.Answers.{overlay_of}
 use Rattle.layout.proofs.LayoutLaws.{whole-all}
@@ -18,23 +18,23 @@ returns-then-fill c =
     rw c.if-fill.true in
     record { value = told; as_drawn = (row_ends a.settings a.mem.now a.fill o gs told).1 }
 
-pub returns-in-NoOverlay : goal.returns-in-NoOverlay
+pub returns-in-None : goal.returns-in-None
 unfolding over_row over_parts
-returns-in-NoOverlay c =
+returns-in-None c =
     let a = c.args in
     let o = overlay_of a.settings.linear a.overlay a.window.now in
     let gs = segments_of a.settings.linear a.count a.back.now in
     let told : c.side_latch.result ≡ over_row a.settings a.mem.now a.fill o gs =
-    rw (c.if-fill.false, c.in-NoOverlay.is) (rw whole-all at c.side_latch.ensures) in
+    rw (c.if-fill.false, c.in-None.is) (rw whole-all at c.side_latch.ensures) in
     record { value = told; as_drawn = (row_ends a.settings a.mem.now a.fill o gs told).1 }
 
-pub returns-in-Over : goal.returns-in-Over
+pub returns-in-Some : goal.returns-in-Some
 unfolding over_row over_parts
-returns-in-Over c =
+returns-in-Some c =
     let a = c.args in
     let o = overlay_of a.settings.linear a.overlay a.window.now in
     let gs = segments_of a.settings.linear a.count a.back.now in
-    let told : c.side_latch-in-Over.result ≡ over_row a.settings a.mem.now a.fill o gs =
-    rw (c.if-fill.false, c.in-Over.is)
-    (c.side_latch-in-Over.ensures ∙ rw (c.side_latch-within.ensures, c.side_latch-before.ensures, whole-all)) in
+    let told : c.side_latch-in-Some.result ≡ over_row a.settings a.mem.now a.fill o gs =
+    rw (c.if-fill.false, c.in-Some.is)
+    (c.side_latch-in-Some.ensures ∙ rw (c.side_latch-within.ensures, c.side_latch-before.ensures, whole-all) refl) in
     record { value = told; as_drawn = (row_ends a.settings a.mem.now a.fill o gs told).1 }

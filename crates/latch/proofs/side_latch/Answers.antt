@@ -7,7 +7,7 @@ use Rattle.latch.proofs.RowLatchLaws.{side-more, side-none}
 use Rattle.latch.proofs.side_latch.Goals as goal
 
 pub loop-i-init : goal.loop-i-init
-loop-i-init c = (omega arith, omega arith, rw segments-all)
+loop-i-init c = (omega arith, rw segments-all)
 
 pub overflow_add-at : goal.overflow_add-at
 overflow_add-at c =
@@ -19,9 +19,8 @@ loop-i-preserved c =
     let a = c.args in
     let l = c.loop-i in
     let g = c.segment_at-g in (
-      omega arith,
       omega (arith, width-byte a.settings.hidden g.result g.type_inv.1.1.1.1.0.1 g.type_inv.1.1.1.1.1.0.1),
-      l.invariant.2
+      l.invariant.1
           ∙ side-more _ _ _ _ _ l.at l.i l.made (omega arith)
           ∙ rw (c.join-made.ensures, c.chosen_latch.ensures, c.on_side-chosen.ensures, c.width-w.ensures, g.ensures),
     )
@@ -29,4 +28,4 @@ loop-i-preserved c =
 pub returns : goal.returns
 returns c =
     let l = c.loop-i in
-    sym (l.invariant.2 ∙ side-none _ _ _ _ _ _ _ _ (omega arith))
+    sym (l.invariant.1 ∙ side-none _ _ _ _ _ _ _ _ (omega arith))

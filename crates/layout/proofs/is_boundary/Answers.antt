@@ -9,7 +9,7 @@ use borrow.Author.Rules.{rules}
 use Rattle.layout.proofs.is_boundary.Goals as goal
 
 pub loop-i-init : goal.loop-i-init
-loop-i-init c = (omega arith, omega arith, rw segments-all)
+loop-i-init c = (omega arith, rw segments-all)
 
 pub returns-then-at-place : goal.returns-then-at-place
 unfolding boundary
@@ -17,7 +17,7 @@ returns-then-at-place c =
     let l = c.loop-i in
     let a = c.args in
     let g = segments-more a.linear a.count a.words.now l.i (omega arith) in
-    sym (l.invariant.2 ∙ rw (g, eq-eqb _ _ c.if-at-place.true))
+    sym (l.invariant.1 ∙ rw (g, eq-eqb _ _ c.if-at-place.true))
 
 pub overflow_add-at : goal.overflow_add-at
 overflow_add-at c =
@@ -31,9 +31,8 @@ loop-i-preserved c =
     let a = c.args in
     let s = c.segment_at in
     let g = segments-more a.linear a.count a.words.now l.i (omega arith) in (
-      omega arith,
       omega (arith, width-byte a.hidden s.result (search rules) (search rules)),
-      l.invariant.2 ∙ rw (g, ne_eqb _ _ c.if-at-place.false, c.width-at.ensures, s.ensures),
+      l.invariant.1 ∙ rw (g, ne_eqb _ _ c.if-at-place.false, c.width-at.ensures, s.ensures),
     )
 
 pub returns : goal.returns
@@ -41,4 +40,4 @@ unfolding boundary
 returns c =
     let l = c.loop-i in
     let a = c.args in
-    sym (l.invariant.2 ∙ rw (segments-none a.linear a.count a.words.now l.i (omega arith)))
+    sym (l.invariant.1 ∙ rw (segments-none a.linear a.count a.words.now l.i (omega arith)))

@@ -10,7 +10,7 @@ use borrow.Author.Rules.{rules}
 use Rattle.layout.proofs.measure_segments.Goals as goal
 
 pub loop-i-init : goal.loop-i-init
-loop-i-init c = (omega arith, omega arith, rw segments-all, rw segments-all (omega arith))
+loop-i-init c = (omega arith, rw segments-all, rw segments-all (omega arith))
 
 pub overflow_add-sum : goal.overflow_add-sum
 overflow_add-sum c =
@@ -24,10 +24,9 @@ loop-i-preserved c =
     let a = c.args in
     let s = c.segment_at-g in
     let g = segments-more a.linear a.count a.words.now l.i (omega arith) in (
-      omega arith,
       omega (arith, width-byte a.hidden s.result (search rules) (search rules)),
-      l.invariant.2 ∙ rw (g, c.fits-fit.ensures, s.ensures) (sym (and_assoc l.fit _ _)),
-      l.invariant.3 ∙ rw (g, c.width-sum.ensures, s.ensures) (sym (add_assoc l.sum _ _)),
+      l.invariant.1 ∙ rw (g, c.fits-fit.ensures, s.ensures) (sym (and_assoc l.fit _ _)),
+      l.invariant.2 ∙ rw (g, c.width-sum.ensures, s.ensures) (sym (add_assoc l.sum _ _)),
     )
 
 pub returns : goal.returns
@@ -36,4 +35,4 @@ returns c =
     let l = c.loop-i in
     let a = c.args in
     let g = segments-none a.linear a.count a.words.now l.i (omega arith) in
-    rw (l.invariant.2, l.invariant.3, g, and-true, add-zero)
+    rw (l.invariant.1, l.invariant.2, g, and-true, add-zero)

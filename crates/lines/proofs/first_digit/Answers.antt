@@ -1,25 +1,18 @@
--- What stands before i are zeros in front of the first digit, which `fewest` drops: the texts from 0 and from i have the same
--- `fewest`. Where the loop stops that is the text from i itself: its first digit is no zero, or its last.
-use mathlib.Core.Path.{refl, sym, ◌∙◌}
-use native.Mathlib.Omega.{arith}
-use lib.ListN.{drop, length-drop}
-use Rattle.lines.proofs.TextLaws.{digit-kept, zero-dropped, short-kept}
+-- What stands before the place found are zeros, which `fewest` drops; what it keeps begins there.
+use Rattle.std.proofs.Common.{◌≡◌, ◌∙◌, length, take, arith, rules}
+use Rattle.std.proofs.lemmas.Iterator.{YieldsList-from_slice, IsFirst-from_position}
+use lib.Seq.{length-take-le}
+use borrow.Author.Tests.{tests}
+use Rattle.lines.proofs.TextLaws.{Zero, Other, zeros, first-shown, zeros-found, zeros-most}
 use Rattle.lines.proofs.first_digit.Goals as goal
-
-pub loop-i-init : goal.loop-i-init
-loop-i-init c = (omega arith, refl)
-
-pub returns-then-text-i-ne48 : goal.returns-then-text-i-ne48
-returns-then-text-i-ne48 c =
-    let l = c.loop-i in
-    (l.invariant.0, sym (digit-kept c.args.text.now l.i c.loop-i-test.true c.if-text-i-ne48.true) ∙ l.invariant.1)
-
-pub loop-i-preserved : goal.loop-i-preserved
-loop-i-preserved c =
-    let l = c.loop-i in
-    (omega arith, sym (zero-dropped c.args.text.now l.i c.loop-i-test.true c.if-text-i-ne48.false) ∙ l.invariant.1)
 
 pub returns : goal.returns
 returns c =
-    let l = c.loop-i in
-    (l.invariant.0, sym (short-kept (drop l.i c.args.text.now) (rw length-drop (omega arith))) ∙ l.invariant.1)
+    let l = c.args.text.now in
+    let last = c.saturating_sub-last.result in
+    let front = take last l in
+    let found = IsFirst-from_position _ _ _ Other Zero c.position.ensures.ran (YieldsList-from_slice front cc) (λ x q k. search (rules, tests)) (λ x q k. search (rules, tests)) in
+    let n : length front ≡ last = length-take-le last l (omega arith) in
+    let at : c.unwrap_or.result ≡ zeros front = c.unwrap_or.ensures ∙ (rw n at (zeros-found front c.position.result found)) in
+    let most = zeros-most front in
+    (omega arith, rw at (first-shown l last (omega arith)))

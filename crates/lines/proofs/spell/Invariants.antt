@@ -1,13 +1,7 @@
-use mathlib.Core.Path.{◌≡◌}
-use mathlib.Core.List.{◌++◌}
-use Prim.Native.Nat.{◌≤◌}
-use lib.ListN.{length, drop}
+-- The digits of n are those of the rest that still stand before i, then the text from i on.
+use Rattle.std.proofs.Common.{◌≡◌, ◌++◌, length, drop}
 use Rattle.lines.specs.Lines.{digits}
 use Rattle.lines.proofs.spell.Given as goal
 
 abbrev pub invariant-loop-i : goal.invariant-loop-i
-invariant-loop-i l =
-    (l.i ≤ length l.text) × (length l.text ≡ length l.initial.text) × (digits l.base (length l.initial.text) l.n ≡ digits l.base l.i l.rest ++ drop l.i l.text)
-
-abbrev pub decreases-loop-i : goal.decreases-loop-i
-decreases-loop-i l = l.i
+invariant-loop-i l = digits l.base (length l.initial.text) l.n ≡ digits l.base l.i l.rest ++ drop l.i l.text

@@ -34,7 +34,7 @@ put_row-requires c =
     let words : Words m = λ i. (c.type_inv.mem i).fits in
     let small : s.fields.fill.code < 256 = c.well_formed.1.1.0.1.1.1.0.1.1.1.1.1.0.1.1.0.1 in
     let drawn = c.draw in
-    let from = accepted-from a.settings s.fields a.buffer.now (run m (row a.settings s)) (rw c.in-Accepted.is at c.draw.ensures.buffer_after) in
+    let from = accepted-from a.settings s.fields a.buffer.now (run m (row a.settings s)) (rw c.in_ok-drawn.was at c.draw.ensures.buffer_after) in
     let same = rw (← from.cells) at (cursor-alike a.settings s.fields from.row.drawing.cells) in
     let is = asked-row a.settings m words s small c.draw.new.buffer pre.buffer_len.1 from.is same in
     rw c.code_settings-code.ensures (record {
@@ -43,8 +43,8 @@ put_row-requires c =
       cells_in_bounds = omega (arith, ap length is, row_room a.settings m words s small, drawn.auto.list, pre.list_len.0, pre.list_len.1);
     })
 
-pub returns-in-Accepted : goal.returns-in-Accepted
-returns-in-Accepted c =
+pub returns : goal.returns
+returns c =
     let a = c.args in
     let pre = c.requires in
     let σ = a.settings in
@@ -55,7 +55,7 @@ returns-in-Accepted c =
     let small : f.fill.code < 256 = c.well_formed.1.1.0.1.1.1.0.1.1.1.1.1.0.1.1.0.1 in
     let straight = (plan-passing _ _ _ pre.buffer_len.1).straight in
     let certain = c.is_sure-certain.result in
-    let drawn = rw c.in-Accepted.is at c.draw.ensures in
+    let drawn = rw c.in_ok-drawn.was at c.draw.ensures in
     let from = accepted-from σ f a.buffer.now (run m (row σ s)) drawn.buffer_after in
     let same = rw (← from.cells) at (cursor-alike σ f from.row.drawing.cells) in
     let is = asked-row σ m words s small _ pre.buffer_len.1 from.is same in

@@ -15,12 +15,12 @@ use Rattle.mail.proofs.write_mail.Goals as goal
 pub returns-then-cells-ne132 : goal.returns-then-cells-ne132
 returns-then-cells-ne132 c =
     let a = c.args in
-    rw c.refuse.ensures (record { few_bytes = lit≤ tt; text_after = other-count a.settings _ a.text.now c.if-cells-ne132.true })
+    rw c.refused.ensures (record { few_bytes = lit≤ tt; text_after = other-count a.settings _ a.text.now c.if-cells-ne132.true })
 
 pub returns-then-not-is_good : goal.returns-then-not-is_good
 returns-then-not-is_good c =
     let a = c.args in
-    rw c.refuse-then-not-is_good.ensures (record { few_bytes = lit≤ tt; text_after = not_good a.settings _ a.text.now c.if-cells-ne132.false (sym c.is_good.ensures ∙ c.if-not-is_good.true) })
+    rw c.refused-then-not-is_good.ensures (record { few_bytes = lit≤ tt; text_after = not_good a.settings _ a.text.now c.if-cells-ne132.false (sym c.is_good.ensures ∙ c.if-not-is_good.true) })
 
 pub put_row-count-requires : goal.put_row-count-requires
 put_row-count-requires c =
@@ -33,7 +33,7 @@ returns-then-text-count c =
     let a = c.args in
     let g : good a.settings ≡ true = sym c.is_good.ensures ∙ c.if-not-is_good.false in
     let e = c.put_row-count.ensures.1 ∙ ap (λ (n : ℕ). row_text (map text_cell (take n a.cells.now))) c.shown_columns.ensures in
-    rw c.refuse-then-text-count.ensures
+    rw c.refused-then-text-count.ensures
     (record { few_bytes = lit≤ tt; text_after = too_short a.settings _ a.text.now c.if-cells-ne132.false g c.put_row-count.new.out _ c.put_row-count.ensures.0 e c.if-text-count.true })
 
 pub returns : goal.returns

@@ -13,4 +13,4 @@ overflow_add-result-else-end-text c =
 pub returns-else-end-text : goal.returns-else-end-text
 returns-else-end-text c = λ cells h.
     let l = common-left row_end c.args.text.now in
-    (rw (ne_eqb _ 0 c.if-count-eq0.false, ← c.common-end.ensures, c.if-end-text.false, c.larger.ensures), omega arith)
+    (rw (ne_eqb _ 0 c.if-count-eq0.false, ← c.common-end.ensures, c.if-end-text.false, c.max.ensures), omega arith)

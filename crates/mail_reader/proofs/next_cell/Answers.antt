@@ -4,28 +4,21 @@ use Rattle.mail_reader.proofs.ReaderLaws.{first-trial, trial-found, trial-stoppe
 use Rattle.mail_reader.proofs.next_cell.Goals as goal
 
 pub loop-marks-init : goal.loop-marks-init
-loop-marks-init c = (omega arith, omega arith, omega arith, first-trial _)
+loop-marks-init c = (omega arith, omega arith, first-trial _)
 
-pub returns-in-Cell : goal.returns-in-Cell
-returns-in-Cell c =
-    let a = c.args in
+pub returns-in-Ok : goal.returns-in-Ok
+returns-in-Ok c =
     let l = c.loop-marks in
-    let e = rw c.in-Cell.is at c.try_marks.ensures in
-    (trial-found _ _ _ l.reach a.text.now l.invariant.3 _ _ c.loop-marks-test.true e.0, e.1)
+    let e = rw c.in-Ok.is at c.try_marks.ensures in
+    (trial-found _ _ _ l.reach c.args.text.now l.invariant.2 _ c.loop-marks-test.true e.0, e.1)
 
 pub loop-marks-preserved : goal.loop-marks-preserved
 loop-marks-preserved c =
-    let a = c.args in
     let l = c.loop-marks in
-    let e = rw c.in-Stops.is at c.try_marks.ensures in (
-      omega arith,
-      omega arith,
-      omega arith,
-      rw c.larger-reach.ensures (trial-stopped _ _ _ l.reach a.text.now l.invariant.3 _ c.loop-marks-test.true e.0),
-    )
+    let e = rw c.in-Err.is at c.try_marks.ensures in
+    (omega arith, omega arith, rw c.max-reach.ensures (trial-stopped _ _ _ l.reach c.args.text.now l.invariant.2 _ c.loop-marks-test.true e.0))
 
 pub returns : goal.returns
 returns c =
-    let a = c.args in
     let l = c.loop-marks in
-    (trials-end _ _ _ l.reach a.text.now l.invariant.3 c.loop-marks-test.false, (l.invariant.1, l.invariant.2))
+    (trials-end _ _ _ l.reach c.args.text.now l.invariant.2 c.loop-marks-test.false, (l.invariant.0, l.invariant.1))

@@ -7,8 +7,6 @@ use Rattle.mail_reader.proofs.read_cells.Given as goal
 
 abbrev pub invariant-loop-count : goal.invariant-loop-count
 invariant-loop-count l =
-    (l.count ≤ 132) × (length l.row ≡ 132) × (l.at ≤ 4 + 13 * l.count) × (l.at ≤ length l.text)
+    (l.at ≤ 4 + 13 * l.count) × (l.at ≤ length l.text)
     × (joined [] 4 (cells_read 132 0 0 (drop 4 l.text)) ≡ joined (take l.count l.row) l.at (cells_read (132 - l.count) l.count l.before (drop l.at l.text)))
-
-abbrev pub decreases-loop-count : goal.decreases-loop-count
-decreases-loop-count l = 132 - l.count
+    × (length l.row ≡ 132)

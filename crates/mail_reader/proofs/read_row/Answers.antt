@@ -12,8 +12,7 @@ returns-then-start-lt4 c =
     rw e (other-start _ (rw e at c.if-start-lt4.true))
 
 pub read_cells-requires : goal.read_cells-requires
-read_cells-requires c =
-    (omega (arith, common-right row_start c.args.text.now), c.requires)
+read_cells-requires c = omega (arith, common-right row_start c.args.text.now)
 
 pub returns : goal.returns
 returns c =

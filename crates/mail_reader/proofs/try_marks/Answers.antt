@@ -1,5 +1,6 @@
 -- `mail::change` writes what stands before such a cell; what the text shares with it, and the byte after it, decide.
 use mathlib.Core.Path.{sym, ◌∙◌}
+use native.Mathlib.Omega.{arith}
 use Rattle.mail_reader.proofs.ReaderLaws.{try-differs, try-text-ends, try-no-character, try-cell}
 use Rattle.mail_reader.proofs.try_marks.Goals as goal
 
@@ -10,24 +11,22 @@ returns-then-reach-n c =
     let e = c.common-reach.ensures in
     rw e (try-differs _ _ a.text.now p.new.out p.result p.ensures (rw e at c.if-reach-n.true))
 
-pub returns-then-text-n : goal.returns-then-text-n
-returns-then-text-n c =
-    let a = c.args in
+pub returns-in_default : goal.returns-in_default
+returns-in_default c =
     let p = c.change-n in
-    rw c.common-reach.ensures
-    (try-text-ends _ _ a.text.now p.new.out p.result p.ensures c.if-text-n.true)
+    rw c.common-reach.ensures (try-text-ends _ _ c.args.text.now p.new.out p.result p.ensures (rw c.in_default.is at c.get.ensures.lookup.3))
 
-pub returns-then-is_character : goal.returns-then-is_character
-returns-then-is_character c =
-    let e = c.common-reach.ensures in
-    let a = c.args in
+pub returns-then-not-is_character : goal.returns-then-not-is_character
+returns-then-not-is_character c =
     let p = c.change-n in
-    try-cell _ _ a.text.now p.new.out p.result p.ensures (rw e at c.if-reach-n.false) c.if-text-n.false
-    (sym c.is_character.ensures ∙ c.if-is_character.true)
+    let e = c.in-Some.ensures.lookup.4 (omega arith) 0 in
+    rw c.common-reach.ensures (try-no-character _ _ c.args.text.now p.new.out p.result p.ensures (rw (← e) (sym c.is_character.ensures ∙ c.if-not-is_character.true)))
 
-pub returns-else-is_character : goal.returns-else-is_character
-returns-else-is_character c =
-    let a = c.args in
+pub returns : goal.returns
+returns c =
     let p = c.change-n in
-    rw c.common-reach.ensures
-    (try-no-character _ _ a.text.now p.new.out p.result p.ensures (sym c.is_character.ensures ∙ c.if-is_character.false))
+    let e = c.in-Some.ensures.lookup.4 (omega arith) 0 in
+    let r = c.common-reach.ensures in
+    rw e
+    (try-cell _ _ c.args.text.now p.new.out p.result p.ensures (rw r at c.if-reach-n.false) (omega (arith, c.in-Some.ensures.lookup.3.0))
+    (rw (← e) (sym c.is_character.ensures ∙ c.if-not-is_character.false)))

@@ -4,11 +4,11 @@ use Rattle.mail_text.proofs.RowLaws.{never-refused, row_line}
 use borrow.Author.Rules.{rules}
 use Rattle.mail_text.proofs.row_text.Goals as goal
 
-pub returns-in-Text : goal.returns-in-Text
-returns-in-Text c =
-    row_line c.args.settings _ _ c.requires (search rules) (omega arith) (rw c.in-Text.is at c.write_mail.ensures.text_after)
+pub returns-in-Ok : goal.returns-in-Ok
+returns-in-Ok c =
+    row_line c.args.settings _ _ c.requires (search rules) (omega arith) (rw c.in-Ok.is at c.write_mail.ensures.text_after)
 
-pub returns-in-Refused : goal.returns-in-Refused
-returns-in-Refused c =
+pub returns-in-Err : goal.returns-in-Err
+returns-in-Err c =
     absurd
-    (never-refused c.args.settings _ _ c.requires (search rules) (omega arith) (rw c.in-Refused.is at c.write_mail.ensures.text_after))
+    (never-refused c.args.settings _ _ c.requires (search rules) (omega arith) (rw c.in-Err.is at c.write_mail.ensures.text_after))

@@ -7,4 +7,4 @@ use Rattle.mailprint.proofs.mail.Goals as goal
 pub returns : goal.returns
 unfolding output
 returns g c =
-    printed (λ rs. outcome_text) (λ rs qs n. refl) output (λ bytes. refl) c.print.result _ _ c.read_script-script.ensures.drawn.taken c.print.ensures
+    printed (λ rs. outcome_text) (λ rs qs n. refl) output (λ bytes. refl) c.print.result _ _ c.read_script-script.ensures.drawn.taken c.begin-text.ensures c.print.ensures

@@ -16,4 +16,4 @@ fits c =
 
 pub returns : goal.returns
 unfolding next_word
-returns c = rw (c.page_after.ensures, carried c.before, c.wrapping_add_u16-next.ensures.value)
+returns c = rw (c.page_after.ensures, carried c.before)

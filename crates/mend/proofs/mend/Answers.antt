@@ -4,4 +4,4 @@ use Rattle.mend.proofs.mend.Goals as goal
 
 pub loop-count-preserved : goal.loop-count-preserved
 loop-count-preserved g c =
-    written-on _ _ _ _ c.loop-count.invariant c.in_ok-write_all-in-Written.ensures.bytes c.in-Written.ensures.next.lines
+    written-on _ _ _ _ c.loop-count.invariant c.in_ok-write_all.ensures.bytes c.in-Some.ensures.next.bytes

@@ -22,17 +22,17 @@ with_changes (Err e) held between holds d w = tt
 pub returns-in_ok-mended-in-Draw : goal.returns-in_ok-mended-in-Draw
 unfolding output
 returns-in_ok-mended-in-Draw g c =
-    printed (λ rs. outcome_text) (λ rs qs n. refl) output (λ bytes. refl) c.print.result _ _ c.in-Draw.ensures.drawn.taken
+    printed (λ rs. outcome_text) (λ rs qs n. refl) output (λ bytes. refl) c.print.result _ _ c.in-Draw.ensures.drawn.taken refl
     (with_changes c.print.result _ _ _ c.in_ok-mended-in-Draw.ensures c.print.ensures)
 
 pub returns-in-Refused : goal.returns-in-Refused
 unfolding output
 returns-in-Refused g c =
-    printed (λ rs. outcome_text) (λ rs qs n. refl) output (λ bytes. refl) c.print-in-Refused.result _ _ c.in-Refused.ensures.drawn.taken
+    printed (λ rs. outcome_text) (λ rs qs n. refl) output (λ bytes. refl) c.print-in-Refused.result _ _ c.in-Refused.ensures.drawn.taken refl
     c.print-in-Refused.ensures
 
 pub returns-in-More : goal.returns-in-More
 unfolding output
 returns-in-More g c =
-    printed (λ rs. outcome_text) (λ rs qs n. refl) output (λ bytes. refl) c.print-in-More.result _ _ c.in-More.ensures.drawn.taken
+    printed (λ rs. outcome_text) (λ rs qs n. refl) output (λ bytes. refl) c.print-in-More.result _ _ c.in-More.ensures.drawn.taken refl
     c.print-in-More.ensures

@@ -1,5 +1,6 @@
 -- A change has its line before the text of what it leaves; where there is none the text is the draw program's.
 use Prim.Native.Nat.{◌<◌}
+use mathlib.Core.Logic.{inl, inr}
 use Rattle.memory.proofs.ReadBounds.{Words}
 use Rattle.mending.proofs.Steps.{Sixteen}
 use Rattle.mend_text.proofs.ChangeLaws.{changed-next, unchanged-next, change-written, unchanged-text}
@@ -17,13 +18,11 @@ sixteen c =
 
 pub returns-in-Whole : goal.returns-in-Whole
 returns-in-Whole c =
-    let e = rw c.in-Whole.is at c.mend_step.ensures.mem_after in
-    record { out_after = unchanged-next _ _ _ tt e; next = unchanged-text _ _ (sixteen (goal.at.returns-in-Whole c).After-mend_step) _ tt e }
-
-pub returns-in-Refused : goal.returns-in-Refused
-returns-in-Refused c =
-    let e = rw c.in-Refused.is at c.mend_step.ensures.mem_after in
-    record { out_after = unchanged-next _ _ _ tt e; next = unchanged-text _ _ (sixteen (goal.at.returns-in-Refused c).After-mend_step) _ tt e }
+    let w = sixteen (goal.at.returns-in-Whole c).After-mend_step in
+    elim c.in-Whole.is [
+      | inl e ↦ let m = rw e at c.mend_step.ensures.mem_after in record { out_after = unchanged-next _ _ _ tt m; next = unchanged-text _ _ w _ tt m }
+      | inr r ↦ let m = rw r.1 at c.mend_step.ensures.mem_after in record { out_after = unchanged-next _ _ _ tt m; next = unchanged-text _ _ w _ tt m }
+    ]
 
 pub returns-in-Changed : goal.returns-in-Changed
 returns-in-Changed c =

@@ -5,7 +5,7 @@ use Rattle.panel.proofs.above_at.Goals as goal
 
 pub returns-then-d-end : goal.returns-then-d-end
 unfolding above_at
-returns-then-d-end c = rw (le-leb _ _ c.if-d-end.true, c.less.ensures)
+returns-then-d-end c = rw (le-leb _ _ c.if-d-end.true, c.saturating_sub.ensures)
 
 pub returns : goal.returns
 unfolding above_at

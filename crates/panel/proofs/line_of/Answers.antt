@@ -4,13 +4,13 @@ use mir.ValLaws.{to_z-of_z}
 use Rattle.panel.specs.Line.{line}
 use Rattle.panel.proofs.line_of.Goals as goal
 
-pub returns-in-Nowhere : goal.returns-in-Nowhere
+pub returns-in_default : goal.returns-in_default
 unfolding line
-returns-in-Nowhere c = rw (← c.place_of.ensures, c.in-Nowhere.is)
+returns-in_default c = rw (← c.place_of.ensures, c.in_default.is)
 
-pub returns-in-At : goal.returns-in-At
+pub returns : goal.returns
 unfolding line
-returns-in-At c =
+returns c =
     let same = to_z-of_z w32 c.args.shift c.ranges.shift in
     let background = rw same at c.background_of-background.ensures in
-    rw (← c.place_of.ensures, c.in-At.is, ← background, rw same at c.background_lines.ensures)
+    rw (← c.place_of.ensures, c.in-Some.is, ← background, rw same at c.background_lines.ensures)

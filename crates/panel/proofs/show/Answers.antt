@@ -4,7 +4,6 @@ use mathlib.Core.Bool.{◌&&◌}
 use Prim.Native.Nat.{ℕ}
 use native.Mathlib.Omega.{arith}
 use borrow.Author.Tests.{eq-eqb, ne_eqb}
-use lib.ListN.{length-set}
 use lib.Seq.{take_all}
 use Rattle.panel.specs.Shown.{layer, sized, cells_from, shown, show_call}
 use Rattle.panel.proofs.CellLaws.{cells-next, shown-columns}
@@ -28,15 +27,12 @@ returns-then-cells-ne132 c =
 
 pub loop-x-init : goal.loop-x-init
 unfolding cells_from
-loop-x-init c = (omega arith, refl, refl)
+loop-x-init c = refl
 
 pub loop-x-preserved : goal.loop-x-preserved
 loop-x-preserved c =
-    let l = c.loop-x in (
-      omega arith,
-      simp length-set l.invariant.1,
-      rw c.shown_in.ensures (cells-next _ l.cells l.x (omega arith) l.invariant.2),
-    )
+    let l = c.loop-x in
+    rw c.shown_in.ensures (cells-next _ l.cells l.x (omega arith) l.invariant)
 
 pub returns : goal.returns
 unfolding show_call
@@ -48,5 +44,5 @@ returns c =
     let cells = columns a.still.now a.still_columns a.gliding.now a.gliding_columns a.behind.now in
     let all : l.x ≡ 132 = omega (arith, c.if-cells-ne132.false) in
     let done : l.cells ≡ shown s b a.behind.now =
-    sym (take_all l.x l.cells (omega arith)) ∙ l.invariant.2 ∙ ap (λ (k : ℕ). cells_from cells k 0) all ∙ sym (shown-columns s b a.behind.now) in
+    sym (take_all l.x l.cells (omega arith)) ∙ l.invariant ∙ ap (λ (k : ℕ). cells_from cells k 0) all ∙ sym (shown-columns s b a.behind.now) in
     rw (counts (goal.at.returns c).After-is_sized-3, c.if-not-is_sized.false, eq-eqb _ _ c.if-cells-ne132.false, done)

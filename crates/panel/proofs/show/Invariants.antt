@@ -1,7 +1,7 @@
 use mathlib.Core.Path.{◌≡◌}
 use mathlib.Core.List.{List}
-use Prim.Native.Nat.{ℕ, ◌-◌, ◌≤◌}
-use lib.ListN.{length, take}
+use Prim.Native.Nat.{ℕ}
+use lib.ListN.{take}
 use Rattle.panel.specs.declared.Columns.{Columns}
 use Rattle.panel.specs.Shown.{layer, cells_from}
 use Rattle.panel.specs.Answers.{shown_in}
@@ -12,8 +12,4 @@ abbrev pub columns : List ℕ → Columns → List ℕ → Columns → List ℕ 
 columns still still-columns gliding gliding-columns behind = shown_in (layer still still-columns) (layer gliding gliding-columns) behind still
 
 abbrev pub invariant-loop-x : goal.invariant-loop-x
-invariant-loop-x l =
-    (l.x ≤ length l.initial.cells) × (length l.cells ≡ length l.initial.cells) × (take l.x l.cells ≡ cells_from (columns l.still l.still_columns l.gliding l.gliding_columns l.behind) l.x 0)
-
-abbrev pub decreases-loop-x : goal.decreases-loop-x
-decreases-loop-x l = length l.initial.cells - l.x
+invariant-loop-x l = take l.x l.cells ≡ cells_from (columns l.still l.still_columns l.gliding l.gliding_columns l.behind) l.x 0

@@ -1,5 +1,7 @@
 -- The code goes by the definition's cases: no row that stands still, its window there, another column.
-use Rattle.panel.specs.Shown.{layer, shown_cell}
+use mathlib.Core.Path.{◌≡◌, sym, ◌∙◌}
+use mathlib.Core.Bool.{true, false}
+use Rattle.panel.specs.Shown.{layer, in_columns, shown_cell}
 use Rattle.panel.proofs.CellLaws.{stands}
 use Rattle.panel.proofs.shown_in.Goals as goal
 
@@ -9,7 +11,8 @@ returns-then-is_in c =
     let a = c.args in
     let s = layer a.still.now a.still_columns in
     let b = layer a.gliding.now a.gliding_columns in
-    rw (stands s b a.behind.now a.still.now a.x c.if-still-eq0.false, ← c.is_in.ensures, c.if-is_in.true) c.cell_in-cell.ensures
+    let inside : in_columns a.still_columns a.x ≡ true = sym c.is_in.ensures ∙ c.if-is_in.true in
+    rw (stands s b a.behind.now a.still.now a.x c.if-still-eq0.false, inside) c.cell_in-cell.ensures
 
 pub returns : goal.returns
 unfolding shown_cell
@@ -17,5 +20,6 @@ returns c =
     let a = c.args in
     let s = layer a.still.now a.still_columns in
     let b = layer a.gliding.now a.gliding_columns in
-    rw (stands s b a.behind.now a.still.now a.x c.if-still-eq0.false, ← c.is_in.ensures, c.if-is_in.false, ← c.background_cell.ensures, ← c.cell_in-cell.ensures)
+    let outside : in_columns a.still_columns a.x ≡ false = sym c.is_in.ensures ∙ c.if-is_in.false in
+    rw (stands s b a.behind.now a.still.now a.x c.if-still-eq0.false, outside, ← c.background_cell.ensures, ← c.cell_in-cell.ensures)
     c.with_cursor_of.ensures

@@ -2,7 +2,6 @@
 use Rattle.script.specs.Feeding.{beginning}
 use Rattle.script.proofs.begin.Goals as goal
 
--- The settings are `no_settings`, and every number is 0.
 pub returns : goal.returns
 unfolding beginning
 returns c = rw c.no_settings-settings.ensures

@@ -1,5 +1,5 @@
 -- The match is the choice by kind, and each test is its kind's.
-use Rattle.std.proofs.Common.{◌≡◌, ℕ, ◌/◌, ◌%◌, ◌&&◌, eqb, ltb, sym}
+use Rattle.std.proofs.Common.{arith, ◌≡◌, ℕ, ◌/◌, ◌%◌, ◌&&◌, eqb, ltb, sym}
 use Rattle.script.specs.Records.{address, accepted}
 use Rattle.script.proofs.KindLaws.{kind_1, kind_2, kind_3}
 use Rattle.script.proofs.is_accepted.Goals as goal
@@ -17,4 +17,4 @@ returns-in-2 c = word-accepted _ _ c.in-2.is
 
 pub returns-in_default : goal.returns-in_default
 unfolding accepted
-returns-in_default c = sym (kind_3 _ _ _ _ c.in_default.in_default-own.rest.0.1 c.in_default.in_default-own.rest.1)
+returns-in_default c = sym (kind_3 c.args.kind _ _ _ (omega arith) (omega arith))

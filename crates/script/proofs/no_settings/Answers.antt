@@ -3,7 +3,6 @@ use Rattle.std.proofs.Common.{refl}
 use Rattle.script.specs.Script.{unset}
 use Rattle.script.proofs.no_settings.Goals as goal
 
--- Every field is the definition's.
 pub returns : goal.returns
 unfolding unset
 returns c = refl

@@ -2,7 +2,6 @@
 use Rattle.script.specs.Records.{registered}
 use Rattle.script.proofs.set_register.Goals as goal
 
--- Each field is picked by the test that the definition has.
 pub returns : goal.returns
 unfolding registered
 returns c =

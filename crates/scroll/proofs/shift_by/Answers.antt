@@ -1,5 +1,6 @@
 -- Disabled, the scroll is still; enabled, the row's lines are read and the offset goes on from the last one.
 use mathlib.Core.Path.{ap, sym, ◌∙◌}
+use Rattle.memory.proofs.Laws.{exit, told-ok, told-err}
 use Rattle.scroll.specs.Scroll.{shift_answered}
 use Rattle.scroll.proofs.ShiftLaws.{disabled, row-refused, row_read, m4-lines, moved_lines}
 use Rattle.scroll.proofs.shift_by.Goals as goal
@@ -15,14 +16,15 @@ moved-now_moved-requires c = (rw c.rate_of.ensures (m4-lines _), c.from_last-las
 pub reached-requires : goal.reached-requires
 reached-requires c = rw c.moved-now_moved.ensures (moved_lines _ _ (rw c.rate_of.ensures (m4-lines _)) c.from_last-last_moved.ensures.1.lines)
 
-pub returns-in-Refused : goal.returns-in-Refused
-returns-in-Refused c =
+pub returns-in_err-lines : goal.returns-in_err-lines
+returns-in_err-lines c =
     let h = sym c.is_enabled.ensures ∙ c.if-not-is_enabled.false in
-    let e = sym (rw c.in-Refused.is at c.edge_lines.ensures) in
-    rw c.refusal_of.ensures (ap shift_answered (sym (row-refused _ _ _ _ _ h (sym e))))
+    let k = told-err 0 _ (sym c.told_in.ensures ∙ c.in_err-lines.was) in
+    let e = sym (rw k.1 at c.edge_lines.ensures) in
+    rw (exit _ c.from_residual.ensures.1, k.2) (ap shift_answered (sym (row-refused _ _ _ _ _ h (sym e))))
 
-pub returns-in-Read : goal.returns-in-Read
-returns-in-Read c =
+pub returns : goal.returns
+returns c =
     let h = sym c.is_enabled.ensures ∙ c.if-not-is_enabled.false in
-    let e = rw c.in-Read.is at c.edge_lines.ensures in
+    let e = rw (told-ok 0 _ (sym c.told_in.ensures ∙ c.in_ok-lines.was)) at c.edge_lines.ensures in
     rw (c.reached.ensures, c.moved-now_moved.ensures, c.rate_of.ensures, c.from_last-last_moved.ensures.0, c.is_up-up.ensures) (sym (row_read _ _ _ _ _ h e))

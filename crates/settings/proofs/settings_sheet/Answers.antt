@@ -14,4 +14,4 @@ returns-then-is_good c = rw (← c.is_good.ensures, c.if-is_good.true, c.sheet_o
 
 pub returns-else-is_good : goal.returns-else-is_good
 unfolding sheet_call
-returns-else-is_good c = rw (← c.is_good.ensures, c.if-is_good.false, c.refusal_of.ensures, c.fault_of.ensures)
+returns-else-is_good c = rw (← c.is_good.ensures, c.if-is_good.false, c.refused.ensures)

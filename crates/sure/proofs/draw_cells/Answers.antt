@@ -11,7 +11,7 @@ draw_stretch-requires c =
     let a = c.args in
     let p = c.requires in
     let gs = segments_of a.settings.linear a.count a.back.now in
-    let no-window = c.in-NoOverlay.is in
+    let no-window = c.in-None.is in
     let d = rw no-window at p.drawable in
     let s = sure-plain a.settings.hidden a.fill.flag a.mem.now gs (rw no-window at p.back_value) in
     let blank = c.blank-pen.ensures in let whole = whole-all a.settings.hidden 0 gs in record {
@@ -21,9 +21,9 @@ draw_stretch-requires c =
       segments_value_2 = rw (blank, whole) (λ e. omega (arith, s.1 e));
     }
 
-pub returns-in-NoOverlay : goal.returns-in-NoOverlay
+pub returns-in-None : goal.returns-in-None
 unfolding row_cells
-returns-in-NoOverlay c =
+returns-in-None c =
     let a = c.args in
     let blank = c.blank-pen.ensures in
-    let whole = whole-all a.settings.hidden 0 (segments_of a.settings.linear a.count a.back.now) in record { column_value = (c.draw_stretch.ensures.column_value.0, omega (arith, c.draw_stretch.ensures.column_value.1)); latch_value = rw c.in-NoOverlay.is (rw (blank, whole) at c.draw_stretch.ensures.cells_value) }
+    let whole = whole-all a.settings.hidden 0 (segments_of a.settings.linear a.count a.back.now) in record { column_value = (c.draw_stretch.ensures.column_value.0, omega (arith, c.draw_stretch.ensures.column_value.1)); latch_value = rw c.in-None.is (rw (blank, whole) at c.draw_stretch.ensures.cells_value) }

@@ -19,22 +19,22 @@ use Rattle.sure.proofs.draw_side.Goals as goal
 pub loop-i-init : goal.loop-i-init
 loop-i-init c =
     let p = c.requires in
-    (omega arith, refl, refl, omega arith, omega arith, rw segments-all (rw p.words_bound.1 at p.segments_value), rw segments-all, rw segments-all)
+    (omega arith, omega arith, rw segments-all (rw p.words_bound.1 at p.segments_value), rw segments-all, rw segments-all)
 
 pub draw_chosen-drawn-requires : goal.draw_chosen-drawn-requires
 draw_chosen-drawn-requires c =
     let a = c.args in
     let p = c.requires in
     let l = c.loop-i in
-    let less : l.i < a.count.number = c.loop-i-test.true in
+    let less : l.i < a.count.number = omega arith in
     let small : a.count.number < 256 = c.well_formed.1.1.1.0.1.1.0.1 in
     let room = rw p.words_bound.1 at p.segments_in_bounds in
     let g = c.segment_at-g.ensures in
     let h = a.stretch.settings.hidden in
     let t = side-total 0 a.mem.now true h a.stretch.side a.count a.segments.now l.at l.i less in
-    let s = sure-more a.stretch.fill.flag a.mem.now true a.count a.segments.now l.i less l.invariant.5 in (
-      rw (c.on_side-chosen.ensures, c.width-w.ensures, g) (omega (arith, t, l.invariant.6, l.invariant.1, room)),
-      omega (arith, l.invariant.4, p.words_bound.0),
+    let s = sure-more a.stretch.fill.flag a.mem.now true a.count a.segments.now l.i less l.invariant.2 in (
+      rw (c.on_side-chosen.ensures, c.width-w.ensures, g) (omega arith),
+      omega arith,
       refl,
       rw g s.0,
     )
@@ -45,17 +45,15 @@ overflow_add-at c =
     let g = c.segment_at-g in
     let byte = width-byte c.args.stretch.settings.hidden g.result g.type_inv.1.1.1.1.0.1 g.type_inv.1.1.1.1.1.0.1 in
     let w = c.width-w.ensures in
-    omega (arith, c.loop-i.invariant.0, c.loop-i.invariant.3, small, byte, w)
+    omega arith
 
 pub loop-i-preserved : goal.loop-i-preserved
 loop-i-preserved c =
     let l = c.loop-i in
     let a = c.args in
-    let test = c.loop-i-test in
-    let less : l.i < a.count.number = test.true in
+    let less : l.i < a.count.number = omega arith in
     let g = c.segment_at-g in
     let w = c.width-w.ensures in
-    let e = c.draw_chosen-drawn in
     let on = c.on_side-chosen.ensures in
     let h = rw (on, w, g.ensures) at c.draw_chosen-drawn.ensures.column_value in
     let hidden = a.stretch.settings.hidden in
@@ -64,13 +62,10 @@ loop-i-preserved c =
     let t = side-total 0 a.mem.now true hidden a.stretch.side a.count a.segments.now l.at l.i less in
     rw c.anew-current.ensures (
       omega arith,
-      e.auto.cells ∙ l.invariant.1,
-      e.auto.list ∙ l.invariant.2,
-      omega (arith, l.invariant.3, byte, w),
-      omega (arith, h.1, l.invariant.4),
-      (sure-more a.stretch.fill.flag a.mem.now true a.count a.segments.now l.i less l.invariant.5).1,
-      rw (w, g.ensures) (omega (arith, t, h.0, l.invariant.6)),
-      l.invariant.7
+      omega arith,
+      (sure-more a.stretch.fill.flag a.mem.now true a.count a.segments.now l.i less l.invariant.2).1,
+      rw (w, g.ensures) (omega arith),
+      l.invariant.4
           ∙ side-more l.read a.mem.now l.list true hidden a.stretch.side a.count a.segments.now l.at l.i
           (segment σ a.stretch.fill a.stretch.source) (so_far l.current l.cells) less
           (rw (on, w, g.ensures) at c.draw_chosen-drawn.ensures.cells_value)
@@ -86,13 +81,13 @@ returns c =
     let σ : CodeSettings = record { linear = true; hidden = hidden; flag = a.stretch.settings.flag } in
     let past : a.count.number ≤ l.i = omega arith in
     let z = side-none-total 0 a.mem.now true hidden a.stretch.side a.count a.segments.now l.at l.i past in record {
-      column_value = (rw linear (omega (arith, z, l.invariant.6)), omega (arith, l.invariant.4));
+      column_value = (rw linear (omega arith), omega arith);
       cells_value = ap (λ (s : CodeSettings). noting a.words a.mem.now a.list.now
           (each (segment s a.stretch.fill a.stretch.source)
           (segments_on a.stretch.side s.hidden 0 (segments_of s.linear a.count a.segments.now))
           (so_far a.pen a.cells.now)))
           (linear-settings a.stretch.settings linear)
-          ∙ l.invariant.7
+          ∙ l.invariant.4
           ∙ side-none l.read a.mem.now l.list true hidden a.stretch.side a.count a.segments.now l.at l.i
           (segment σ a.stretch.fill a.stretch.source) (so_far l.current l.cells) past;
     }

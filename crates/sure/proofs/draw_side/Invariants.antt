@@ -1,7 +1,6 @@
 use mathlib.Core.Path.{◌≡◌}
 use mathlib.Core.Bool.{true}
-use Prim.Native.Nat.{◌≤◌, ◌+◌, ◌-◌, ◌*◌}
-use lib.ListN.{length}
+use Prim.Native.Nat.{◌≤◌, ◌+◌, ◌*◌}
 use Rattle.memory.specs.Reading.{each}
 use Rattle.blocks.specs.RowBlock.{segments_of}
 use Rattle.blocks.specs.Answers.{segments_past}
@@ -14,7 +13,7 @@ use Rattle.sure.proofs.draw_side.Given as goal
 
 abbrev pub invariant-loop-i : goal.invariant-loop-i
 invariant-loop-i l =
-    (l.i ≤ l.n) × (length l.cells ≡ length l.initial.cells) × (length l.list ≡ length l.initial.list) × (l.at ≤ 255 * l.i) × (l.read ≤ l.words + 512 * l.i)
+    (l.at ≤ 255 * l.i) × (l.read ≤ l.words + 512 * l.i)
     × (sure_all l.fill.flag l.mem (segments_past true l.count l.segments l.i) ≡ true)
     × (l.current.column + total l.settings.hidden (segments_on l.side l.settings.hidden l.at (segments_past true l.count l.segments l.i))
     ≡ l.initial.current.column + total l.settings.hidden (segments_on l.side l.settings.hidden 0 (segments_of true l.count l.segments)))
@@ -23,6 +22,3 @@ invariant-loop-i l =
     ≡ noting l.read l.mem l.list
     (each (segment l.settings l.fill l.source) (segments_on l.side l.settings.hidden l.at (segments_past true l.count l.segments l.i))
     (so_far l.current l.cells)))
-
-abbrev pub decreases-loop-i : goal.decreases-loop-i
-decreases-loop-i l = l.n - l.i

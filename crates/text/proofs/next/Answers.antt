@@ -1,23 +1,22 @@
 -- Each case of the text has its lines.
 use mathlib.Core.Path.{refl}
 use native.Mathlib.Omega.{arith}
-use Rattle.text.specs.declared.Text.TheVariants.{Refused, NoScript}
-use Rattle.text.specs.ToCome.{to_come}
-use Rattle.text.proofs.TextLaws.{last_line}
+use Rattle.text.specs.Form.{to_come}
+use Rattle.lines.proofs.PieceLaws.{last-piece}
 use Rattle.text.proofs.next.Goals as goal
 
 pub returns-in-Refused : goal.returns-in-Refused
 unfolding to_come
-returns-in-Refused c =
+returns-in-Refused g c =
     rw c.in-Refused.is
-    (last_line c.args.mem.now (Refused c.in-Refused.refusal) _ _ c.refusal_line.ensures refl (omega arith))
+    (last-piece c.refusal_line.ensures refl (omega arith))
 
 pub returns-in-NoScript : goal.returns-in-NoScript
 unfolding to_come
-returns-in-NoScript c =
+returns-in-NoScript g c =
     rw c.in-NoScript.is
-    (last_line c.args.mem.now (NoScript c.in-NoScript.offset) _ _ c.script_line.ensures refl (omega arith))
+    (last-piece c.script_line.ensures refl (omega arith))
 
 pub returns-in-Ended : goal.returns-in-Ended
 unfolding to_come
-returns-in-Ended c = rw c.in-Ended.is
+returns-in-Ended g c = rw c.in-Ended.is

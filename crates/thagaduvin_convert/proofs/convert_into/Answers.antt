@@ -13,5 +13,5 @@ overflow_cast-c c =
     let val : c.args.s.val < 65536 = omega (arith, g) in
     let top : c.args.s.top.second < 65536 = omega (arith, g) in
     let tow : c.args.s.tow.second < 65536 = omega (arith, g) in
-    let e = rw c.in-Accepted.is at c.convert.ensures in
+    let e = rw c.in-Ok.is at c.convert.ensures in
     omega (arith, count_fits _ _ _ _ _ ((λ i. search rules), top, tow) val (sym (ap (λ (x : Called). x.answer) e)))

@@ -5,14 +5,14 @@ use Rattle.memory.proofs.Laws.{run-done}
 use Rattle.windows.specs.Window.{due_window}
 use Rattle.windows.proofs.due_window.Goals as goal
 
-pub returns-in-Absent : goal.returns-in-Absent
+pub returns-in-None : goal.returns-in-None
 unfolding due_window
-returns-in-Absent c = rw c.in-Absent.is (sym (run-done _ _ _))
+returns-in-None c = rw c.in-None.is (sym (run-done _ _ _))
 
 pub returns-then-w-row : goal.returns-then-w-row
 unfolding due_window
-returns-then-w-row c = rw (c.in-Present.is, lt-ltb _ _ c.if-w-row.true) c.window_at.ensures
+returns-then-w-row c = rw (c.in-Some.is, lt-ltb _ _ c.if-w-row.true) c.window_at.ensures
 
 pub returns-else-w-row : goal.returns-else-w-row
 unfolding due_window
-returns-else-w-row c = rw (c.in-Present.is, le-ltb _ _ c.if-w-row.false) (sym (run-done _ _ _))
+returns-else-w-row c = rw (c.in-Some.is, le-ltb _ _ c.if-w-row.false) (sym (run-done _ _ _))

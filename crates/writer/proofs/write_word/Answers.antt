@@ -3,7 +3,6 @@ use mathlib.Core.Path.{sym, ◌∙◌}
 use Rattle.writer.proofs.WriterLaws.{write-shared, write-outside, write-inside}
 use Rattle.writer.proofs.write_word.Goals as goal
 
--- Three ways, as the tests go; the index is below the length since the address may be written.
 pub returns-then-share : goal.returns-then-share
 returns-then-share c = rw c.refused.ensures (sym (write-shared _ _ _ _ _ (sym c.share.ensures ∙ c.if-share.true)))
 

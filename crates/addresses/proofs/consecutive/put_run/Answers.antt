@@ -9,14 +9,14 @@ use Rattle.addresses.proofs.consecutive.put_run.Goals as goal
 
 pub loop-i-init : goal.loop-i-init
 unfolding ahead
-loop-i-init c = (omega arith, refl, rw (add-zero, sub-zero))
+loop-i-init c = (refl, rw (add-zero, sub-zero))
 
 pub loop-i-preserved : goal.loop-i-preserved
 loop-i-preserved c =
     let l = c.loop-i in
-    (omega arith, simp length-set l.invariant.1, l.invariant.2 ∙ turn_more _ _ l.i _ l.list _ (omega arith) ∙ rw c.words_ahead.ensures)
+    (simp length-set l.invariant.0, l.invariant.1 ∙ turn_more _ _ l.i _ l.list _ (omega arith) ∙ rw c.words_ahead.ensures)
 
 pub returns : goal.returns
 returns c =
     let l = c.loop-i in
-    sym (l.invariant.2 ∙ turn-done _ _ l.i _ l.list _ (omega arith))
+    sym (l.invariant.1 ∙ turn-done _ _ l.i _ l.list _ (omega arith))

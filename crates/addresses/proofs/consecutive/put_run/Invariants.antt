@@ -8,7 +8,4 @@ use Rattle.addresses.proofs.consecutive.put_run.Given as goal
 
 abbrev pub invariant-loop-i : goal.invariant-loop-i
 invariant-loop-i l =
-    (l.i ≤ l.n) × (length l.list ≡ length l.initial.list) × (sets l.initial.list l.at (in_turn l.linear l.n l.a) ≡ sets l.list (l.at + l.i) (in_turn l.linear (l.n - l.i) (ahead l.linear l.i l.a)))
-
-abbrev pub decreases-loop-i : goal.decreases-loop-i
-decreases-loop-i l = l.n - l.i
+    (length l.list ≡ length l.initial.list) × (sets l.initial.list l.at (in_turn l.linear l.n l.a) ≡ sets l.list (l.at + l.i) (in_turn l.linear (l.n - l.i) (ahead l.linear l.i l.a)))

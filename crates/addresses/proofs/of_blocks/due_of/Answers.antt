@@ -4,14 +4,14 @@ use borrow.Author.Tests.{lt-ltb, le-ltb}
 use Rattle.addresses.specs.Addresses.{due_of}
 use Rattle.addresses.proofs.of_blocks.due_of.Goals as goal
 
-pub returns-in-Absent : goal.returns-in-Absent
+pub returns-in-None : goal.returns-in-None
 unfolding due_of
-returns-in-Absent c = rw c.in-Absent.is c.null.ensures
+returns-in-None c = rw c.in-None.is
 
 pub returns-then-x-row : goal.returns-then-x-row
 unfolding due_of
-returns-then-x-row c = rw (c.in-Present.is, lt-ltb c.in-Present.x.block.bottom c.args.row c.if-x-row.true)
+returns-then-x-row c = rw (c.in-Some.is, lt-ltb c.in-Some.x.block.bottom c.args.row c.if-x-row.true)
 
 pub returns-else-x-row : goal.returns-else-x-row
 unfolding due_of
-returns-else-x-row c = rw (c.in-Present.is, le-ltb c.in-Present.x.block.bottom c.args.row (omega arith)) c.null-else-x-row.ensures
+returns-else-x-row c = rw (c.in-Some.is, le-ltb c.in-Some.x.block.bottom c.args.row (omega arith))

@@ -2,10 +2,10 @@
 use Rattle.addresses.specs.Addresses.{over_rows}
 use Rattle.addresses.proofs.of_blocks.over_rows.Goals as goal
 
-pub returns-in-NoOverlay : goal.returns-in-NoOverlay
+pub returns-in-None : goal.returns-in-None
 unfolding over_rows
-returns-in-NoOverlay c = λ ws. rw c.in-NoOverlay.is c.null.ensures
+returns-in-None c = λ ws. rw c.in-None.is
 
-pub returns-in-Over : goal.returns-in-Over
+pub returns-in-Some : goal.returns-in-Some
 unfolding over_rows
-returns-in-Over c = λ ws. rw c.in-Over.is c.rows_of.ensures
+returns-in-Some c = λ ws. rw c.in-Some.is c.rows_of.ensures

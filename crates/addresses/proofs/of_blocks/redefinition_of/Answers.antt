@@ -5,7 +5,7 @@ use Rattle.addresses.proofs.of_blocks.redefinition_of.Goals as goal
 
 pub returns-then-p-eq0 : goal.returns-then-p-eq0
 unfolding redefinition_of
-returns-then-p-eq0 c = rw (eq-eqb c.args.p.address 0 c.if-p-eq0.true) c.null.ensures
+returns-then-p-eq0 c = rw (eq-eqb c.args.p.address 0 c.if-p-eq0.true)
 
 pub returns-then-bit_15 : goal.returns-then-bit_15
 unfolding redefinition_of
@@ -15,4 +15,4 @@ returns-then-bit_15 c =
 pub returns-else-bit_15 : goal.returns-else-bit_15
 unfolding redefinition_of
 returns-else-bit_15 c =
-    rw (ne_eqb c.args.p.address 0 c.if-p-eq0.false, rw (c.bit_15.ensures, c.head_word.ensures) at c.if-bit_15.false) c.null-else-bit_15.ensures
+    rw (ne_eqb c.args.p.address 0 c.if-p-eq0.false, rw (c.bit_15.ensures, c.head_word.ensures) at c.if-bit_15.false)

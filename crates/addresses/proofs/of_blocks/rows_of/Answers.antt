@@ -4,14 +4,14 @@ use borrow.Author.Tests.{lt-ltb, le-ltb}
 use Rattle.addresses.specs.Addresses.{rows_of}
 use Rattle.addresses.proofs.of_blocks.rows_of.Goals as goal
 
-pub returns-in-Absent : goal.returns-in-Absent
+pub returns-in-None : goal.returns-in-None
 unfolding rows_of
-returns-in-Absent c = rw c.in-Absent.is c.null.ensures
+returns-in-None c = rw c.in-None.is
 
 pub returns-then-x-row : goal.returns-then-x-row
 unfolding rows_of
-returns-then-x-row c = rw (c.in-Present.is, lt-ltb c.in-Present.x.block.bottom c.args.row c.if-x-row.true) c.pointer_in.ensures
+returns-then-x-row c = rw (c.in-Some.is, lt-ltb c.in-Some.x.block.bottom c.args.row c.if-x-row.true) c.pointer_in.ensures
 
 pub returns-else-x-row : goal.returns-else-x-row
 unfolding rows_of
-returns-else-x-row c = rw (c.in-Present.is, le-ltb c.in-Present.x.block.bottom c.args.row (omega arith))
+returns-else-x-row c = rw (c.in-Some.is, le-ltb c.in-Some.x.block.bottom c.args.row (omega arith))

@@ -11,7 +11,7 @@ pub put_stretch-requires : goal.put_stretch-requires
 unfolding cell_addresses
 put_stretch-requires c =
     let a = c.args in
-    let p = rw c.in-NoOverlay.is at c.requires in
+    let p = rw c.in-None.is at c.requires in
     let gs = segments_of a.settings.linear a.count a.back.now in
     rw (c.no_list.ensures, whole-all a.settings.hidden 0 gs) (record {
       segments_bound = (omega (arith, p.drawable.narrow), p.cells_len);
@@ -21,21 +21,21 @@ put_stretch-requires c =
 pub put_around-requires : goal.put_around-requires
 unfolding cell_addresses edges_fit
 put_around-requires c =
-    let p = rw c.in-Over.is at c.requires in
+    let p = rw c.in-Some.is at c.requires in
     rw c.no_list.ensures (record {
       drawable = record { narrow = p.drawable.narrow; inside = p.drawable.inside; edges = p.drawable.edges };
       cells_len = (p.cells_len, refl);
       back_in_bounds = p.back_in_bounds;
     })
 
-pub returns-in-NoOverlay : goal.returns-in-NoOverlay
+pub returns-in-None : goal.returns-in-None
 unfolding cell_addresses
-returns-in-NoOverlay c =
+returns-in-None c =
     let a = c.args in
     let gs = segments_of a.settings.linear a.count a.back.now in
-    rw c.in-NoOverlay.is
+    rw c.in-None.is
     (rw (c.no_list.ensures, whole-all a.settings.hidden 0 gs) at c.put_stretch.ensures.list_after)
 
-pub returns-in-Over : goal.returns-in-Over
+pub returns-in-Some : goal.returns-in-Some
 unfolding cell_addresses
-returns-in-Over c = rw c.in-Over.is c.put_around.ensures
+returns-in-Some c = rw c.in-Some.is c.put_around.ensures

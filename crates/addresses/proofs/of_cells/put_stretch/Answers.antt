@@ -17,7 +17,7 @@ use borrow.Author.Rules.{rules}
 use Rattle.addresses.proofs.of_cells.put_stretch.Goals as goal
 
 pub loop-i-init : goal.loop-i-init
-loop-i-init c = (omega arith, refl, omega arith, rw segments-all, rw segments-all, rw segments-all, rw segments-all)
+loop-i-init c = (refl, omega arith, rw segments-all, rw segments-all, rw segments-all, rw segments-all)
 
 pub put_chosen-to-requires : goal.put_chosen-to-requires
 unfolding run_addresses
@@ -29,11 +29,11 @@ put_chosen-to-requires c =
     let t = side-total 0 a.mem.now σ.linear σ.hidden a.stretch.side a.count a.segments.now l.s l.i (omega arith) in
     let e = side-addresses σ a.mem.now a.stretch.fill a.cells.now a.stretch.side a.count a.segments.now l.column l.s l.i (omega arith) in
     rw (c.on_side-chosen.ensures, c.width-w.ensures, c.segment_at-g.ensures) (record {
-      else_in_bounds = omega (arith, t, l.invariant.3, c.requires.segments_bound.0, c.requires.segments_bound.1);
+      else_in_bounds = omega (arith, t, l.invariant.2, c.requires.segments_bound.0, c.requires.segments_bound.1);
       g_in_bounds = omega (
         arith,
-        l.invariant.1,
-        l.invariant.4,
+        l.invariant.0,
+        l.invariant.3,
         ap length e,
         c.requires.list_in_bounds,
         length-append (side_addresses σ a.mem.now a.stretch.fill a.cells.now a.stretch.column gs) (taken (run_fills σ a.mem.now a.stretch.fill a.cells.now a.stretch.column gs a.stretch.end a.from.list) (side_list σ a.mem.now a.stretch.fill a.cells.now a.stretch.column gs a.from.list)),
@@ -49,14 +49,14 @@ overflow_add-column c =
     let σ = a.stretch.settings in
     let t = side-total 0 a.mem.now σ.linear σ.hidden a.stretch.side a.count a.segments.now l.s l.i (omega arith) in
     let room : l.column + c.chosen_width-column.result ≤ 132
-    = rw (c.chosen_width-column.ensures, c.on_side-chosen.ensures, c.width-w.ensures, c.segment_at-g.ensures) (omega (arith, t, l.invariant.3, c.requires.segments_bound.0)) in
+    = rw (c.chosen_width-column.ensures, c.on_side-chosen.ensures, c.width-w.ensures, c.segment_at-g.ensures) (omega (arith, t, l.invariant.2, c.requires.segments_bound.0)) in
     search (rules, room)
 
 pub overflow_add-s : goal.overflow_add-s
 overflow_add-s c =
     let small : c.args.count.number < 256 = search rules in
     let g = c.segment_at-g in
-    omega (arith, c.loop-i.invariant.0, c.loop-i.invariant.2, small, width-byte c.args.stretch.settings.hidden g.result g.type_inv.1.1.1.1.0.1 g.type_inv.1.1.1.1.1.0.1, c.width-w.ensures)
+    omega (arith, c.loop-i-test.true, c.loop-i.invariant.1, small, width-byte c.args.stretch.settings.hidden g.result g.type_inv.1.1.1.1.0.1 g.type_inv.1.1.1.1.1.0.1, c.width-w.ensures)
 
 pub loop-i-preserved : goal.loop-i-preserved
 loop-i-preserved c =
@@ -73,15 +73,14 @@ loop-i-preserved c =
     let put = c.put_chosen-to in
     let front = chosen_addresses σ m fill cs (chosen σ m fill cs a.stretch.side a.count a.segments.now l.column l.s l.i) l.column (turn σ m fill cs a.stretch.side a.count a.segments.now l.column l.s l.i) in
     let rest = side_addresses σ m fill cs (column σ m fill cs a.stretch.side a.count a.segments.now l.column l.s l.i) (after σ m fill cs a.stretch.side a.count a.segments.now l.column l.s l.i) in (
-      omega (arith, test),
-      put.auto.list ∙ l.invariant.1,
-      omega (arith, l.invariant.2, width-byte σ.hidden g.result g.type_inv.1.1.1.1.0.1 g.type_inv.1.1.1.1.1.0.1, c.width-w.ensures),
-      rw (c.chosen_width-column.ensures, c.on_side-chosen.ensures, c.width-w.ensures, g.ensures) (omega (arith, t, l.invariant.3)),
-      rw (c.put_chosen-to.ensures.value, c.chosen_width-column.ensures, c.on_side-chosen.ensures, c.width-w.ensures, g.ensures) (omega (arith, l.invariant.4, ap length e, length-append front rest)),
+      put.auto.list ∙ l.invariant.0,
+      omega (arith, l.invariant.1, width-byte σ.hidden g.result g.type_inv.1.1.1.1.0.1 g.type_inv.1.1.1.1.1.0.1, c.width-w.ensures),
+      rw (c.chosen_width-column.ensures, c.on_side-chosen.ensures, c.width-w.ensures, g.ensures) (omega (arith, t, l.invariant.2)),
+      rw (c.put_chosen-to.ensures.value, c.chosen_width-column.ensures, c.on_side-chosen.ensures, c.width-w.ensures, g.ensures) (omega (arith, l.invariant.3, ap length e, length-append front rest)),
       rw (c.put_chosen-to.ensures.value, c.chosen_width-column.ensures, c.on_side-chosen.ensures, c.width-w.ensures, g.ensures)
-          (l.invariant.5 ∙ side-list σ m fill cs a.stretch.side a.count a.segments.now l.column l.s l.i l.to.list test),
+          (l.invariant.4 ∙ side-list σ m fill cs a.stretch.side a.count a.segments.now l.column l.s l.i l.to.list test),
       rw (c.put_chosen-to.ensures.list_after, c.put_chosen-to.ensures.value, c.chosen_width-column.ensures, c.on_side-chosen.ensures, c.width-w.ensures, g.ensures)
-          (l.invariant.6 ∙ ap (sets l.list l.to.at) e ∙ sets-append l.list l.to.at front rest),
+          (l.invariant.5 ∙ ap (sets l.list l.to.at) e ∙ sets-append l.list l.to.at front rest),
     )
 
 -- where the loop ends: at the place, the column and the list that the definition has after the segments
@@ -97,13 +96,13 @@ put_taken-requires c =
     let gs = segments_on a.stretch.side σ.hidden 0 (segments_of σ.linear a.count a.segments.now) in
     let none = none-addresses σ m fill cs a.stretch.side a.count a.segments.now l.column l.s l.i (omega arith) in
     let width = side-none-total 0 m σ.linear σ.hidden a.stretch.side a.count a.segments.now l.s l.i (omega arith) in
-    let list : l.to.list ≡ side_list σ m fill cs a.stretch.column gs a.from.list = sym (l.invariant.5 ∙ none_list σ m fill cs a.stretch.side a.count a.segments.now l.column l.s l.i l.to.list (omega arith)) in
-    let ends : l.column ≡ a.stretch.column + total σ.hidden gs = omega (arith, l.invariant.3, width) in
+    let list : l.to.list ≡ side_list σ m fill cs a.stretch.column gs a.from.list = sym (l.invariant.4 ∙ none_list σ m fill cs a.stretch.side a.count a.segments.now l.column l.s l.i l.to.list (omega arith)) in
+    let ends : l.column ≡ a.stretch.column + total σ.hidden gs = omega (arith, l.invariant.2, width) in
     rw (c.does_fill-due.ensures, list, ends)
     (omega (
       arith,
-      l.invariant.1,
-      l.invariant.4,
+      l.invariant.0,
+      l.invariant.3,
       ap length none,
       c.requires.list_in_bounds,
       length-append (side_addresses σ m fill cs a.stretch.column gs) (taken (run_fills σ m fill cs a.stretch.column gs a.stretch.end a.from.list) (side_list σ m fill cs a.stretch.column gs a.from.list)),
@@ -121,10 +120,10 @@ returns c =
     let gs = segments_on a.stretch.side σ.hidden 0 (segments_of σ.linear a.count a.segments.now) in
     let none = none-addresses σ m fill cs a.stretch.side a.count a.segments.now l.column l.s l.i (omega arith) in
     let width = side-none-total 0 m σ.linear σ.hidden a.stretch.side a.count a.segments.now l.s l.i (omega arith) in
-    let list : l.to.list ≡ side_list σ m fill cs a.stretch.column gs a.from.list = sym (l.invariant.5 ∙ none_list σ m fill cs a.stretch.side a.count a.segments.now l.column l.s l.i l.to.list (omega arith)) in
-    let ends : l.column ≡ a.stretch.column + total σ.hidden gs = omega (arith, l.invariant.3, width) in
+    let list : l.to.list ≡ side_list σ m fill cs a.stretch.column gs a.from.list = sym (l.invariant.4 ∙ none_list σ m fill cs a.stretch.side a.count a.segments.now l.column l.s l.i l.to.list (omega arith)) in
+    let ends : l.column ≡ a.stretch.column + total σ.hidden gs = omega (arith, l.invariant.2, width) in
     let front = side_addresses σ m fill cs a.stretch.column gs in
-    let place : l.to.at ≡ a.from.at + length front = omega (arith, l.invariant.4, ap length none) in
-    let all : sets a.list.now a.from.at front ≡ l.list = l.invariant.6 ∙ ap (sets l.list l.to.at) none in
+    let place : l.to.at ≡ a.from.at + length front = omega (arith, l.invariant.3, ap length none) in
+    let all : sets a.list.now a.from.at front ≡ l.list = l.invariant.5 ∙ ap (sets l.list l.to.at) none in
     let rest = taken (run_fills σ m fill cs a.stretch.column gs a.stretch.end a.from.list) (side_list σ m fill cs a.stretch.column gs a.from.list) in
     let r = rw (c.does_fill-due.ensures, list, ends, place) at c.put_taken.ensures in record { value = r.value ∙ written-append a.from.at front rest _; list_after = r.list_after ∙ ap (λ (k : List ℕ). sets k (a.from.at + length front) rest) (sym all) ∙ sym (sets-append a.list.now a.from.at front rest) }

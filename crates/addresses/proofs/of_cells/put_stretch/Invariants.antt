@@ -10,7 +10,7 @@ use Rattle.addresses.proofs.of_cells.put_stretch.Given as goal
 
 abbrev pub invariant-loop-i : goal.invariant-loop-i
 invariant-loop-i l =
-    (l.i ≤ l.n) × (length l.list ≡ length l.initial.list) × (l.s ≤ 255 * l.i)
+    (length l.list ≡ length l.initial.list) × (l.s ≤ 255 * l.i)
     × (l.column + total l.settings.hidden (segments_on l.side l.settings.hidden l.s (segments_past l.settings.linear l.count l.segments l.i))
     ≡ l.initial.column + total l.settings.hidden (segments_on l.side l.settings.hidden 0 (segments_of l.settings.linear l.count l.segments)))
     × (l.initial.to.at + length (side_addresses l.settings l.mem l.fill l.cells l.initial.column (segments_on l.side l.settings.hidden 0 (segments_of l.settings.linear l.count l.segments)))
@@ -19,6 +19,3 @@ invariant-loop-i l =
     ≡ side_list l.settings l.mem l.fill l.cells l.column (segments_on l.side l.settings.hidden l.s (segments_past l.settings.linear l.count l.segments l.i)) l.to.list)
     × (sets l.initial.list l.initial.to.at (side_addresses l.settings l.mem l.fill l.cells l.initial.column (segments_on l.side l.settings.hidden 0 (segments_of l.settings.linear l.count l.segments)))
     ≡ sets l.list l.to.at (side_addresses l.settings l.mem l.fill l.cells l.column (segments_on l.side l.settings.hidden l.s (segments_past l.settings.linear l.count l.segments l.i))))
-
-abbrev pub decreases-loop-i : goal.decreases-loop-i
-decreases-loop-i l = l.n - l.i

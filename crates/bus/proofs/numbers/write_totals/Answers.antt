@@ -1,9 +1,8 @@
--- A list of seven numbers, each set.
+-- The numbers are the definition's.
 use Rattle.bus.specs.Numbers.{totals_numbers}
-use Rattle.bus.proofs.NumberLaws.{seven-set, yes-number}
+use Rattle.memory.proofs.TestLaws.{yes-number}
 use Rattle.bus.proofs.numbers.write_totals.Goals as goal
 
 pub returns : goal.returns
 unfolding totals_numbers
-returns c =
-    rw (← yes-number c.args.t.any) (seven-set c.args.into.now c.requires _ _ _ _ _ _ _)
+returns c = rw (c.largest_told-largest.ensures, c.is_some.ensures, yes-number)

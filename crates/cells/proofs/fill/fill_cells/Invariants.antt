@@ -1,12 +1,6 @@
-use mathlib.Core.Path.{◌≡◌}
-use mathlib.Core.List.{◌++◌}
-use Prim.Native.Nat.{◌≤◌, ◌-◌}
-use lib.ListN.{length, take, replicate}
+-- As many cells of the part as the index have the value.
+use Rattle.std.proofs.Common.{◌≡◌, take, replicate}
 use Rattle.cells.proofs.fill.fill_cells.Given as goal
 
-abbrev pub invariant-loop-i : goal.invariant-loop-i
-invariant-loop-i l =
-    (l.a ≤ l.i) × (l.i ≤ l.e) × (length l.cells ≡ length l.initial.cells) × (take l.i l.cells ≡ take l.a l.initial.cells ++ replicate (l.i - l.a) l.v)
-
-abbrev pub decreases-loop-i : goal.decreases-loop-i
-decreases-loop-i l = l.e - l.i
+abbrev pub invariant-loop-cell : goal.invariant-loop-cell
+invariant-loop-cell l = take l.cell-index l.cell-items ≡ replicate l.cell-index l.v

@@ -1,7 +1,7 @@
 use mathlib.Core.Path.{◌≡◌}
 use mathlib.Core.List.{List, [], ◌∷◌}
 use Prim.Native.Nat.{ℕ, ◌+◌, ◌-◌, ◌≤◌}
-use lib.ListN.{length, take, drop}
+use lib.ListN.{take, drop}
 use Rattle.memory.specs.Word.{high, low}
 use Rattle.memory.specs.Reading.{each, run_from}
 use Rattle.codes.specs.Codes.{examine, word_codes}
@@ -13,9 +13,6 @@ bytes w = high w ∷ low w ∷ []
 
 abbrev pub invariant-loop-i : goal.invariant-loop-i
 invariant-loop-i l =
-    (l.i ≤ l.n) × (length l.cells ≡ length l.initial.cells) × (l.current.column ≤ l.room.end) × (l.read ≤ l.words + l.i)
+    (l.current.column ≤ l.room.end) × (l.read ≤ l.words + l.i)
     × (run_from l.words l.mem (word_codes l.settings l.room.source l.room.end l.n l.w (so_far l.initial.current l.initial.cells))
     ≡ run_from l.read l.mem (each (examine l.settings l.room.source l.room.end) (take (l.n - l.i) (drop l.i (bytes l.w))) (so_far l.current l.cells)))
-
-abbrev pub decreases-loop-i : goal.decreases-loop-i
-decreases-loop-i l = l.n - l.i

@@ -17,27 +17,27 @@ pub returns-else-invokes-pen : goal.returns-else-invokes-pen
 returns-else-invokes-pen c =
     let a = c.args in
     let r = c.put_character-else-invokes-pen.ensures in record {
-      within = (c.put_character-else-invokes-pen.ensures.column_le_end, omega arith);
-      cells_after = ap (given a.words) c.put_character-else-invokes-pen.ensures.cells_after
+      within = (r.column_le_end, omega arith);
+      cells_after = ap (given a.words) r.cells_after
           ∙ sym (examine-latch a.words a.mem.now a.settings a.room.source a.room.end a.code (so_far a.pen a.cells.now)
           (rw c.invokes.ensures at c.if-invokes-pen.false));
     }
 
-pub returns-in-Word : goal.returns-in-Word
+pub returns-in-Some : goal.returns-in-Some
 unfolding taking
-returns-in-Word c =
+returns-in-Some c =
     let a = c.args in
     let r = c.put_character.ensures in record {
-      within = (c.put_character.ensures.column_le_end, omega arith);
-      cells_after = ap (given (a.words + 1)) (rw c.take_word-taken.ensures at c.put_character.ensures.cells_after)
+      within = (r.column_le_end, omega arith);
+      cells_after = ap (given (a.words + 1)) (rw c.take_word-taken.ensures at r.cells_after)
           ∙ sym (examine-word a.words a.mem.now a.settings a.room.source a.room.end a.code (so_far a.pen a.cells.now) _
-          (rw c.invokes.ensures at c.if-invokes-pen.true) (sym c.word_at.ensures ∙ c.in-Word.is));
+          (rw c.invokes.ensures at c.if-invokes-pen.true) (sym c.word_at.ensures ∙ c.in-Some.is));
     }
 
-pub returns-in-Absent : goal.returns-in-Absent
-returns-in-Absent c =
+pub returns-in_default : goal.returns-in_default
+returns-in_default c =
     let a = c.args in record {
-      within = (omega arith, omega arith);
-      cells_after = rw c.missing-fault.ensures (sym (examine-absent a.words a.mem.now a.settings a.room.source a.room.end a.code (so_far a.pen a.cells.now)
-          (rw c.invokes.ensures at c.if-invokes-pen.true) (sym c.word_at.ensures ∙ c.in-Absent.is)));
+      within = tt;
+      cells_after = rw c.missing.ensures (sym (examine-absent a.words a.mem.now a.settings a.room.source a.room.end a.code (so_far a.pen a.cells.now)
+          (rw c.invokes.ensures at c.if-invokes-pen.true) (sym c.word_at.ensures ∙ c.in_default.is)));
     }

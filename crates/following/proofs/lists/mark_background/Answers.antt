@@ -1,16 +1,20 @@
 -- The row block is marked and then read with its checks; check 12 asks for nothing.
-use mathlib.Core.Path.{sym, ◌∙◌}
+use mathlib.Core.Path.{sym}
+use Rattle.memory.proofs.Laws.{exit}
+use Rattle.marking.proofs.MarkLaws.{trails-so, trails-on}
 use Rattle.following.proofs.ListLaws.{then-faulted, then-refused, then-given}
 use Rattle.following.proofs.lists.mark_background.Goals as goal
 
-pub returns-in-Halted : goal.returns-in-Halted
-returns-in-Halted c = sym (then-faulted _ _ _ _ _ _ (sym (rw c.in-Halted.is at c.mark_row.ensures)))
+pub returns-in_err-mark_row : goal.returns-in_err-mark_row
+returns-in_err-mark_row c =
+    rw (exit _ c.from_residual.ensures.1) (trails-so (rw c.in_err-mark_row.was at c.mark_row.ensures) (then-faulted _ _ _ _ _ _))
 
-pub returns-in-Refused : goal.returns-in-Refused
-returns-in-Refused c =
-    sym (then-refused _ _ _ _ _ _ (sym (rw c.in-Passed.is at c.mark_row.ensures)) (sym (rw c.in-Refused.is at c.background_row.ensures)))
+pub returns-in_default : goal.returns-in_default
+returns-in_default c =
+    trails-so (rw c.in_ok-mark_row.was at c.mark_row.ensures)
+    (λ e. then-refused _ _ _ _ _ _ e (sym (rw (c.in_default.is, c.mark_row.ensures.kept.mem) at c.background_row.ensures)))
 
-pub returns-in-Read : goal.returns-in-Read
-returns-in-Read c =
-    c.mark_overlay.ensures
-    ∙ sym (then-given _ _ _ _ _ _ (sym (rw c.in-Passed.is at c.mark_row.ensures)) (sym (rw c.in-Read.is at c.background_row.ensures)))
+pub returns : goal.returns
+returns c =
+    trails-on (rw c.in_ok-mark_row.was at c.mark_row.ensures) c.mark_overlay.ensures
+    (λ e. then-given _ _ _ _ _ _ e (sym (rw (c.in-Ok.is, c.mark_row.ensures.kept.mem) at c.background_row.ensures)))

@@ -1,16 +1,20 @@
 -- The row block is marked and then read, for its redefinition pointer; checks 9 and 10 ask for nothing.
-use mathlib.Core.Path.{sym, ◌∙◌}
+use mathlib.Core.Path.{sym}
+use Rattle.memory.proofs.Laws.{exit}
+use Rattle.marking.proofs.MarkLaws.{trails-so, trails-on}
 use Rattle.following.proofs.ListLaws.{background-faulted, background-refused, background-given}
 use Rattle.following.proofs.lists.mark_row.Goals as goal
 
-pub returns-in-Halted : goal.returns-in-Halted
-returns-in-Halted c = sym (background-faulted _ _ _ _ _ (sym (rw c.in-Halted.is at c.mark_block.ensures)))
+pub returns-in_err-mark_block : goal.returns-in_err-mark_block
+returns-in_err-mark_block c =
+    rw (exit _ c.from_residual.ensures.1) (trails-so (rw c.in_err-mark_block.was at c.mark_block.ensures) (background-faulted _ _ _ _ _))
 
-pub returns-in-Refused : goal.returns-in-Refused
-returns-in-Refused c =
-    sym (background-refused _ _ _ _ _ (sym (rw c.in-Passed.is at c.mark_block.ensures)) (sym (rw c.in-Refused.is at c.row_block.ensures)))
+pub returns-in_default : goal.returns-in_default
+returns-in_default c =
+    trails-so (rw c.in_ok-mark_block.was at c.mark_block.ensures)
+    (λ e. background-refused _ _ _ _ _ e (sym (rw (c.in_default.is, c.mark_block.ensures.kept.mem) at c.row_block.ensures)))
 
-pub returns-in-Read : goal.returns-in-Read
-returns-in-Read c =
-    c.mark_redefinition.ensures c.args.fields.format
-    ∙ sym (background-given _ _ _ _ _ (sym (rw c.in-Passed.is at c.mark_block.ensures)) (sym (rw c.in-Read.is at c.row_block.ensures)))
+pub returns : goal.returns
+returns c =
+    trails-on (rw c.in_ok-mark_block.was at c.mark_block.ensures) (c.mark_redefinition.ensures c.args.fields.format)
+    (λ e. background-given _ _ _ _ _ e (sym (rw (c.in-Ok.is, c.mark_block.ensures.kept.mem) at c.row_block.ensures)))

@@ -1,25 +1,33 @@
 -- Each turn walks one row: what is left to follow from here is the whole.
-use mathlib.Core.Path.{refl, ◌∙◌}
+use mathlib.Core.Path.{sym, ◌∙◌}
 use native.Mathlib.Omega.{arith}
+use native.Mathlib.Nat.{sub-zero, sub-add-eq}
+use Rattle.memory.proofs.Laws.{exit, told-ok, told-err}
+use Rattle.marking.proofs.MarkLaws.{kept-still, kept-on}
 use Rattle.following.proofs.RowLaws.{rows_none, rows-ended, rows-stopped, rows_more}
 use Rattle.following.proofs.rows.follow_rows.Goals as goal
 
-pub loop-n-init : goal.loop-n-init
-loop-n-init c = (refl, refl)
+pub loop-init : goal.loop-init
+loop-init c = record { kept = kept-still _; rest = rw sub-zero }
 
-pub returns-then-current-eq0 : goal.returns-then-current-eq0
-returns-then-current-eq0 c = rows-ended _ _ _ _ _ c.loop-n-test.true c.if-current-eq0.true ∙ c.loop-n.invariant.1
+pub returns-then-current-eq0-clause-followed : goal.returns-then-current-eq0-clause-followed
+returns-then-current-eq0-clause-followed c = rows-ended _ _ _ _ _ (omega arith) c.if-current-eq0.true ∙ c.loop.invariant.rest
 
-pub returns-in-Halted : goal.returns-in-Halted
-returns-in-Halted c =
-    rw c.refusal_of.ensures
-    (rows-stopped _ _ _ _ _ c.loop-n-test.true c.if-current-eq0.false (rw c.in-Halted.is at c.walk_row.ensures) ∙ c.loop-n.invariant.1)
+pub returns-in_err-current-clause-followed : goal.returns-in_err-current-clause-followed
+returns-in_err-current-clause-followed c =
+    let i = c.loop.invariant in
+    let k = told-err _ _ (sym c.told_in.ensures ∙ c.in_err-current.was) in
+    rw (exit _ c.from_residual.ensures.1, k.2)
+    (rows-stopped _ _ _ _ _ (omega arith) c.if-current-eq0.false (rw (k.1, i.kept.mem) at c.walk_row-walked.ensures.walked) ∙ i.rest)
 
-pub loop-n-preserved : goal.loop-n-preserved
-loop-n-preserved c = (
-  c.walk_row.auto.marks ∙ c.loop-n.invariant.0,
-  rows_more _ _ _ _ _ c.loop-n-test.true c.if-current-eq0.false (rw c.in-Went.is at c.walk_row.ensures) ∙ c.loop-n.invariant.1,
-)
+pub loop-preserved : goal.loop-preserved
+loop-preserved c =
+    let i = c.loop.invariant in
+    let k = told-ok _ _ (sym c.told_in.ensures ∙ c.in_ok-current.was) in
+    record {
+      kept = kept-on i.kept c.walk_row-walked.ensures.kept;
+      rest = rw sub-add-eq (rows_more _ _ _ _ _ (omega arith) c.if-current-eq0.false (rw (k, i.kept.mem) at c.walk_row-walked.ensures.walked)) ∙ i.rest;
+    }
 
-pub returns : goal.returns
-returns c = rows_none _ _ _ _ _ (omega arith) ∙ c.loop-n.invariant.1
+pub returns-clause-followed : goal.returns-clause-followed
+returns-clause-followed c = rows_none _ _ _ _ _ (omega arith) ∙ c.loop.invariant.rest

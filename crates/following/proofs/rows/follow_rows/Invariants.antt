@@ -1,11 +1,13 @@
 use mathlib.Core.Path.{◌≡◌}
-use lib.ListN.{length}
+use Prim.Native.Nat.{◌-◌}
 use Rattle.converter.specs.Converter.{follow_rows}
+use Rattle.marking.specs.Answers.{Kept}
 use Rattle.following.proofs.rows.follow_rows.Given as goal
 
-abbrev pub invariant-loop-n : goal.invariant-loop-n
-invariant-loop-n l =
-    (length l.marks ≡ length l.initial.marks) × (follow_rows l.n l.settings l.mem l.marks l.current ≡ follow_rows l.initial.n l.settings l.mem l.initial.marks l.initial.current)
-
-abbrev pub decreases-loop-n : goal.decreases-loop-n
-decreases-loop-n l = l.n
+abbrev pub invariant-loop : goal.invariant-loop
+invariant-loop l =
+    let m = l.initial.marked.mem.now in
+    record {
+      kept : Kept l.initial.marked l.marked;
+      rest : follow_rows (l.end - l.counter) l.settings m l.marked.marks.now l.current ≡ follow_rows l.fn.state.fields.left l.settings m l.initial.marked.marks.now l.fn.state;
+    }

@@ -7,7 +7,7 @@ use Rattle.latch.proofs.RowLatchLaws.{invoking-more, invoking-one, invoking-none
 use Rattle.latch.proofs.segment.count_invoking.Goals as goal
 
 pub loop-i-init : goal.loop-i-init
-loop-i-init c = (omega arith, omega arith, rw (add-zero, sub-zero, zero-add))
+loop-i-init c = (omega arith, rw (add-zero, sub-zero, zero-add))
 
 pub loop-i-preserved : goal.loop-i-preserved
 loop-i-preserved c =
@@ -15,7 +15,6 @@ loop-i-preserved c =
     let l = c.loop-i in
     let next : a.at + l.i + 1 ≡ a.at + (l.i + 1) = omega arith in
     let more = rw next at (invoking-more a.flag a.mem.now (a.at + l.i) (a.n - 2 * l.i) (a.n - 2 * (l.i + 1)) (omega arith)) in (
-      omega arith,
       omega arith,
       rw (c.takes.ensures.0, c.takes-in-loop-i.ensures.0, c.high_byte.ensures, c.low_byte.ensures) (omega arith),
     )

@@ -5,7 +5,4 @@ use Rattle.latch.proofs.segment.count_invoking.Given as goal
 
 abbrev pub invariant-loop-i : goal.invariant-loop-i
 invariant-loop-i l =
-    (l.i ≤ l.half) × (l.sum ≤ 2 * l.i) × (l.sum + invoking l.flag l.mem (l.at + l.i) (l.n - 2 * l.i) ≡ invoking l.flag l.mem l.at l.n)
-
-abbrev pub decreases-loop-i : goal.decreases-loop-i
-decreases-loop-i l = l.half - l.i
+    (l.sum ≤ 2 * l.i) × (l.sum + invoking l.flag l.mem (l.at + l.i) (l.n - 2 * l.i) ≡ invoking l.flag l.mem l.at l.n)

@@ -6,15 +6,15 @@ use Rattle.latch.proofs.segment.last_latched.Goals as goal
 
 pub returns-then-bit_15 : goal.returns-then-bit_15
 returns-then-bit_15 c =
-    let l = c.loop-left in
-    sym (l.invariant.1 ∙ latched-turn _ _ l.left c.loop-left-test.true ∙ rw (← c.bit_15.ensures, c.if-bit_15.true))
+    let l = c.loop-i in
+    sym (l.invariant ∙ latched-turn _ _ l.i c.loop-i-test.true ∙ rw (← c.bit_15.ensures, c.if-bit_15.true))
 
-pub loop-left-preserved : goal.loop-left-preserved
-loop-left-preserved c =
-    let l = c.loop-left in
-    (omega arith, l.invariant.1 ∙ latched-turn _ _ l.left c.loop-left-test.true ∙ rw (← c.bit_15.ensures, c.if-bit_15.false))
+pub loop-i-preserved : goal.loop-i-preserved
+loop-i-preserved c =
+    let l = c.loop-i in
+    l.invariant ∙ latched-turn _ _ l.i c.loop-i-test.true ∙ rw (← c.bit_15.ensures, c.if-bit_15.false)
 
 pub returns : goal.returns
 returns c =
-    let l = c.loop-left in
-    sym (l.invariant.1 ∙ latched-none _ _ l.left (omega arith))
+    let l = c.loop-i in
+    sym (l.invariant ∙ latched-none _ _ l.i (omega arith))

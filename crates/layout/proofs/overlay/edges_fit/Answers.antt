@@ -3,10 +3,10 @@ use Rattle.layout.specs.Layout.{edges_fit}
 use Rattle.layout.proofs.overlay.edges_fit.Goals as goal
 
 -- Both edges are judged by `is_boundary`; without a window there is none.
-pub returns-in-NoOverlay : goal.returns-in-NoOverlay
+pub returns-in-None : goal.returns-in-None
 unfolding edges_fit
-returns-in-NoOverlay c ws = rw c.in-NoOverlay.is
+returns-in-None c ws = rw c.in-None.is
 
-pub returns-in-Over : goal.returns-in-Over
+pub returns-in-Some : goal.returns-in-Some
 unfolding edges_fit
-returns-in-Over c ws = rw (c.in-Over.is, c.is_boundary.ensures, c.is_boundary-in-Over.ensures)
+returns-in-Some c ws = rw (c.in-Some.is, c.is_boundary.ensures, c.is_boundary-in-Some.ensures)

@@ -15,6 +15,6 @@ pub returns : goal.returns
 unfolding points_at
 returns c =
     let a = c.args in
-    let e : c.pointer_of-p.result ≡ pointer false a.from (word_of a.mem.now a.from) (word_of a.mem.now (next_word false a.from)) =
-    c.pointer_of-p.ensures ∙ rw (c.word_in-first.ensures, c.word_in-second.ensures, c.next_word.ensures) in
+    let e : c.pointer_of.result ≡ pointer false a.from (word_of a.mem.now a.from) (word_of a.mem.now (next_word false a.from)) =
+    c.pointer_of.ensures ∙ rw (c.word_in-first.ensures, c.word_in-second.ensures, c.next_word.ensures) in
     rw (ne_eqb _ 0 c.if-from-eq0.false) (ap (λ (p : Pointer). p.address) e)

@@ -1,6 +1,5 @@
 use mathlib.Core.Path.{◌≡◌}
 use Prim.Native.Nat.{ℕ, ◌+◌, ◌-◌, ◌*◌, ◌≤◌}
-use lib.ListN.{length}
 use Rattle.memory.specs.Address.{further}
 use Rattle.codes.specs.Codes.{codes}
 use Rattle.codes.specs.Answers.{so_far}
@@ -10,10 +9,6 @@ use Rattle.noting.proofs.with_words.examine_pairs.Given as goal
 
 abbrev pub invariant-loop-i : goal.invariant-loop-i
 invariant-loop-i l =
-    (l.i ≤ l.pairs) × (length l.cells ≡ length l.initial.cells) × (length l.list ≡ length l.initial.list) × (l.cursor.column ≤ l.room.end)
-    × (l.cursor.attribute ≡ in_force l.settings.hidden l.room.source l.room.end l.cursor.latch) × (l.cursor.taken ≤ 2 * l.i)
+    (l.cursor.column ≤ l.room.end) × (l.cursor.attribute ≡ in_force l.settings.hidden l.room.source l.room.end l.cursor.latch) × (l.cursor.taken ≤ 2 * l.i)
     × ((f : ℕ) → noting l.words l.mem l.initial.list (codes l.settings l.room.source l.room.end l.count (pointing l.first f) (so_far (pen_of l.settings.linear l.next l.initial.cursor) l.initial.cells))
     ≡ noting (l.words + l.i + l.cursor.taken) l.mem l.list (codes l.settings l.room.source l.room.end (l.count - 2 * l.i) (further l.settings.linear l.i (pointing l.first f)) (so_far (pen_of l.settings.linear l.next l.cursor) l.cells)))
-
-abbrev pub decreases-loop-i : goal.decreases-loop-i
-decreases-loop-i l = l.pairs - l.i

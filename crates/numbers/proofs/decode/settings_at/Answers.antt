@@ -9,7 +9,7 @@ returns c =
     λ i. record {
       linear = v.linear;
       hidden = v.hidden;
-      interlace = c.interlace_of-interlace.ensures i;
+      interlace = c.from-interlace.ensures i;
       cursor = v.cursor;
       flag = v.flag;
       top = v.top;
@@ -22,5 +22,5 @@ returns c =
       hsd = c.held-hsd.ensures i;
       htc = c.held-htc.ensures i;
       htd = c.htd_at-htd.ensures i;
-      edition = c.edition_of-edition.ensures i;
+      edition = c.from-edition.ensures i;
     }

@@ -11,14 +11,14 @@ returns-then-numbers-limits c = other-size _ _ c.if-numbers-limits.true
 pub returns-then-limits-i : goal.returns-then-limits-i
 returns-then-limits-i c =
     let l = c.loop-i in
-    sym (l.invariant.1 ∙ place-above _ _ l.i (omega arith) (omega arith) c.if-limits-i.true)
+    sym (l.invariant ∙ place-above _ _ l.i (omega arith) (omega arith) c.if-limits-i.true)
 
 pub loop-i-preserved : goal.loop-i-preserved
 loop-i-preserved c =
     let l = c.loop-i in
-    (omega arith, l.invariant.1 ∙ place-within _ _ l.i (omega arith) (omega arith) c.if-limits-i.false)
+    l.invariant ∙ place-within _ _ l.i (omega arith) (omega arith) c.if-limits-i.false
 
 pub returns : goal.returns
 returns c =
     let l = c.loop-i in
-    sym (l.invariant.1 ∙ no_place _ _ l.i (omega arith) (omega arith))
+    sym (l.invariant ∙ no_place _ _ l.i (omega arith) (omega arith))

@@ -12,15 +12,15 @@ pub returns : goal.returns
 returns c =
     let a = c.args in
     let pre = c.requires in
-    let p = c.examine_pairs-pairs in
-    let o = c.examine_odd-cursor in
+    let pairs = c.examine_pairs-pairs.ensures in
+    let odd = c.examine_odd-cursor.ensures in
     let σ = a.settings in
     let n = a.words + (a.count + 1) / 2 in
     let begun = pen-begun σ.linear σ.hidden a.room.source a.room.end a.pen pre.present_value.0 in
     rw c.pen_of.ensures (record {
-      within = (c.examine_odd-cursor.ensures.column_le_end.0, omega (arith, c.examine_odd-cursor.ensures.column_le_end.1));
+      within = (odd.column_le_end.0, omega arith);
       cells_after = sym (codes-run a.mem.now σ a.room.source a.room.end a.words a.count a.p (so_far a.pen a.cells.now) pre.present_value.1
-          ∙ rw (c.cursor_of-begun.ensures, begun) at (c.examine_pairs-pairs.ensures.by_index n) ∙ c.examine_odd-cursor.ensures.by_index n);
+          ∙ rw (c.cursor_of-begun.ensures, begun) at (pairs.by_index n) ∙ odd.by_index n);
     })
 
 pub examine_pairs-pairs-requires-clause-count_in_bounds : goal.examine_pairs-pairs-requires-clause-count_in_bounds

@@ -34,12 +34,12 @@ returns-then-invokes c =
     let invoked : invokes a.settings.flag a.code ≡ true = sym c.invokes.ensures ∙ c.if-invokes.true in
     rw (c.with_word.ensures, invoked) (record {
       column_le_end = (
-        rw c.put_code-column.ensures.value (column-room _ a.settings.hidden a.room.source a.room.end w h.column own.ensures pre.1),
+        rw put.ensures.value (column-room _ a.settings.hidden a.room.source a.room.end w h.column own.ensures pre.1),
         in-force-taken w own.result put.result h a.settings.hidden a.room.source a.room.end own.ensures pre.2,
         refl,
       );
-      cells_after = ap (λ (p : Pen). so_far p c.put_code-column.new.cells) (pen-taken w own.result put.result h a.settings.linear a.list)
-          ∙ c.put_code-column.ensures.cells_after a.settings.hidden a.room.source a.room.end w (taking a.settings.linear w (pen_of a.settings.linear a.list h)) own.ensures refl pre.0;
+      cells_after = ap (λ (p : Pen). so_far p put.new.cells) (pen-taken w own.result put.result h a.settings.linear a.list)
+          ∙ put.ensures.cells_after a.settings.hidden a.room.source a.room.end w (taking a.settings.linear w (pen_of a.settings.linear a.list h)) own.ensures refl pre.0;
     })
 
 pub returns-else-invokes : goal.returns-else-invokes
@@ -52,9 +52,9 @@ returns-else-invokes c =
     let plain : invokes a.settings.flag a.code ≡ false = sym c.invokes.ensures ∙ c.if-invokes.false in
     rw plain record {
       column_le_end = (
-        rw c.put_code-column-else-invokes.ensures.value (column-room _ a.settings.hidden a.room.source a.room.end h.latch h.column pre.2 pre.1),
+        rw put.ensures.value (column-room _ a.settings.hidden a.room.source a.room.end h.latch h.column pre.2 pre.1),
         pre.2,
         omega arith,
       );
-      cells_after = c.put_code-column-else-invokes.ensures.cells_after a.settings.hidden a.room.source a.room.end h.latch (pen_of a.settings.linear a.list h) pre.2 refl pre.0;
+      cells_after = put.ensures.cells_after a.settings.hidden a.room.source a.room.end h.latch (pen_of a.settings.linear a.list h) pre.2 refl pre.0;
     }

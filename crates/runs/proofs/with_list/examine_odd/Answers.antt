@@ -20,24 +20,24 @@ examine_listed-requires c =
     let a = c.args in
     let pre = c.requires in
     let ends = run_ends (length a.mem.now) a.list.address a.count a.settings.linear pre.count_in_bounds.1 in
-    (pre.end_in_bounds.0, pre.end_in_bounds.1, pre.end_in_bounds.2, omega (arith, ends, pre.end_in_bounds.3, c.if-count-eq1.true), omega (arith, pre.end_in_bounds.3, pre.end_in_bounds.4))
+    (pre.end_in_bounds.0, pre.end_in_bounds.1, pre.end_in_bounds.2, omega arith, omega arith)
 
 pub returns-then-count-eq1 : goal.returns-then-count-eq1
 unfolding each
 returns-then-count-eq1 c =
     let a = c.args in
     let pre = c.requires in
-    let odd = c.if-count-eq1.true in
     let e = c.examine_listed in
     let code = c.high_byte-code.ensures in
     let m = a.mem.now in
     let d = so_far (pen_of a.settings.linear a.list a.cursor) a.cells.now in
-    let one = one-most (invokes a.settings.flag c.high_byte-code.result) in record {
-      column_le_end = (c.examine_listed.ensures.column_le_end.0, omega (arith, one, c.examine_listed.ensures.column_le_end.2, pre.end_in_bounds.3, odd));
+    let one = one-most (invokes a.settings.flag c.high_byte-code.result) in
+    let drawn = e.ensures.column_le_end in record {
+      column_le_end = (drawn.0, omega arith);
       by_index = λ n. ap (λ (cs : List ℕ). run_from (n + a.cursor.taken) m (each (examine a.settings a.room.source a.room.end) cs d))
-          (codes-odd m a.at (a.count / 2) a.count (omega (arith, pre.count_in_bounds.0, odd)) (omega (arith, odd)))
-          ∙ listed-step m a.settings a.room.source a.room.end n a.list a.count (high _) [] a.cursor e.result a.cells.now _ pre.count_in_bounds.1 (omega (arith, pre.end_in_bounds.3, odd))
-          (rw code at c.examine_listed.ensures.column_le_end.2) (rw code at c.examine_listed.ensures.cells_after)
+          (codes-odd m a.at (a.count / 2) a.count (omega arith) (omega arith))
+          ∙ listed-step m a.settings a.room.source a.room.end n a.list a.count (high _) [] a.cursor e.result a.cells.now _ pre.count_in_bounds.1 (omega arith)
+          (rw code at drawn.2) (rw code at e.ensures.cells_after)
           ∙ run-done _ _ _;
     }
 
@@ -46,4 +46,5 @@ unfolding each codes_in
 returns-else-count-eq1 c =
     let a = c.args in
     let pre = c.requires in
-    let none : a.count - 2 * (a.count / 2) ≡ 0 = omega (arith, c.if-count-eq1.false) in record { column_le_end = (pre.end_in_bounds.1, omega (arith, pre.end_in_bounds.3)); by_index = λ n. rw none (run-done _ _ _) }
+    let none : a.count - 2 * (a.count / 2) ≡ 0 = omega arith in
+    record { column_le_end = (pre.end_in_bounds.1, omega arith); by_index = λ n. rw none (run-done _ _ _) }

@@ -18,16 +18,15 @@ pub returns-then-pairs-count : goal.returns-then-pairs-count
 returns-then-pairs-count c =
     let a = c.args in
     let pre = c.requires in
-    let least = c.lesser-pairs.ensures in
-    let d = c.draw_pairs-after in
+    let least = c.min-pairs.ensures in
+    let pairs = c.min-pairs.result / 2 in
+    let drawn = c.draw_pairs-after.ensures in
     let put = c.put_character.ensures in
-    let pairs = c.lesser-pairs.result / 2 in
-    let more = c.if-pairs-count.true in
     let shown : a.hidden || not (ignores a.pen.latch) ≡ true = sym c.is_shown.ensures ∙ c.if-not-is_shown.false in record {
-      column_le_end = c.put_character.ensures.column_le_end;
-      cells_after = sym (c.draw_pairs-after.ensures.cells_value a.hidden a.room.end a.count shown pre.0 (omega (arith, least, pre.1)) (omega (arith, least))
-          ∙ first-left a.hidden a.room.source a.room.end a.pen.latch a.mem.now (a.at + pairs) (a.count - 2 * pairs) _ _ (omega (arith, pre.3, more)) (omega (arith, more)) shown
-          (rw c.high_byte-code.ensures at c.put_character.ensures.cells_after) (λ g. rw c.draw_pairs-after.ensures.value (omega (arith, g, least, pre.1))));
+      column_le_end = put.column_le_end;
+      cells_after = sym (drawn.cells_value a.hidden a.room.end a.count shown pre.0 (omega arith) (omega arith)
+          ∙ first-left a.hidden a.room.source a.room.end a.pen.latch a.mem.now (a.at + pairs) (a.count - 2 * pairs) _ _ (omega arith) (omega arith) shown
+          (rw c.high_byte-code.ensures at put.cells_after) (λ g. rw drawn.value (omega arith)));
     }
 
 pub returns-else-pairs-count : goal.returns-else-pairs-count
@@ -35,7 +34,10 @@ unfolding characters codes_in
 returns-else-pairs-count c =
     let a = c.args in
     let pre = c.requires in
-    let least = c.lesser-pairs.ensures in
-    let d = c.draw_pairs-after in
+    let least = c.min-pairs.ensures in
+    let drawn = c.draw_pairs-after.ensures in
     let shown : a.hidden || not (ignores a.pen.latch) ≡ true = sym c.is_shown.ensures ∙ c.if-not-is_shown.false in
-    let none : a.count - 2 * (c.lesser-pairs.result / 2) ≡ 0 = omega (arith, c.if-pairs-count.false) in record { column_le_end = rw c.draw_pairs-after.ensures.value (omega (arith, least, pre.1)); cells_after = sym (c.draw_pairs-after.ensures.cells_value a.hidden a.room.end a.count shown pre.0 (omega (arith, least, pre.1)) (omega (arith, least)) ∙ rw none) }
+    let none : a.count - 2 * (c.min-pairs.result / 2) ≡ 0 = omega arith in record {
+      column_le_end = rw drawn.value (omega arith);
+      cells_after = sym (drawn.cells_value a.hidden a.room.end a.count shown pre.0 (omega arith) (omega arith) ∙ rw none);
+    }

@@ -11,10 +11,6 @@ use Rattle.runs.proofs.without_list.draw_pairs.Given as goal
 
 abbrev pub invariant-loop-i : goal.invariant-loop-i
 invariant-loop-i l =
-    (l.i ≤ l.pairs) × (length l.cells ≡ length l.initial.cells)
-    × ((hidden : Bool) (source : Source) (end count : ℕ) → l.bits ≡ cell source l.pen.latch 0 → hidden || not (ignores l.pen.latch) ≡ true → end ≤ length l.initial.cells → l.column + 2 * l.pairs ≤ end → 2 * l.pairs ≤ count
+    ((hidden : Bool) (source : Source) (end count : ℕ) → l.bits ≡ cell source l.pen.latch 0 → hidden || not (ignores l.pen.latch) ≡ true → end ≤ length l.initial.cells → l.column + 2 * l.pairs ≤ end → 2 * l.pairs ≤ count
     → characters hidden source end l.pen.latch (codes_in (drop l.at l.mem) count) (so_far l.pen l.initial.cells)
     ≡ characters hidden source end l.pen.latch (codes_in (drop (l.at + l.i) l.mem) (count - 2 * l.i)) (so_far (moved_to (l.column + 2 * l.i) l.pen) l.cells))
-
-abbrev pub decreases-loop-i : goal.decreases-loop-i
-decreases-loop-i l = l.pairs - l.i

@@ -19,10 +19,10 @@ pub returns : goal.returns
 returns c =
     let a = c.args in
     let pre = c.requires in
-    let d = c.draw_characters.ensures in
+    let drawn = c.draw_characters.ensures in
     let n = a.words + (a.count + 1) / 2 in record {
-      within = (c.draw_characters.ensures.column_le_end, omega arith);
-      cells_after = ap (given n) c.draw_characters.ensures.cells_after
+      within = (drawn.column_le_end, omega arith);
+      cells_after = ap (given n) drawn.cells_after
           ∙ sym (codes-run a.mem.now a.settings a.room.source a.room.end a.words a.count a.p (so_far a.pen a.cells.now) pre.present_value.1
           ∙ each-plain n a.mem.now a.settings a.room.source a.room.end a.pen.latch _ (so_far a.pen a.cells.now) pre.present_value.0 refl);
     }

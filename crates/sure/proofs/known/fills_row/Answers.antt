@@ -10,7 +10,7 @@ use borrow.Author.Rules.{rules}
 use Rattle.sure.proofs.known.fills_row.Goals as goal
 
 pub loop-i-init : goal.loop-i-init
-loop-i-init c = (omega arith, omega arith, rw segments-all (omega arith))
+loop-i-init c = (omega arith, rw segments-all (omega arith))
 
 pub overflow_add-sum : goal.overflow_add-sum
 overflow_add-sum c =
@@ -25,9 +25,8 @@ loop-i-preserved c =
     let a = c.args in
     let s = c.segment_at in
     let g = segments-more true a.count a.segments.now l.i (omega arith) in (
-      omega arith,
       omega (arith, width-byte a.hidden s.result (search rules) (search rules), c.width-sum.ensures),
-      l.invariant.2 ∙ rw (g, c.width-sum.ensures, s.ensures) (sym (add_assoc l.sum _ _)),
+      l.invariant.1 ∙ rw (g, c.width-sum.ensures, s.ensures) (sym (add_assoc l.sum _ _)),
     )
 
 pub returns : goal.returns
@@ -36,4 +35,4 @@ returns c =
     let l = c.loop-i in
     let a = c.args in
     let g = segments-none true a.count a.segments.now l.i (omega arith) in
-    rw (c.if-not-flag.false, l.invariant.2, g, add-zero) refl
+    rw (c.if-not-flag.false, l.invariant.1, g, add-zero) refl

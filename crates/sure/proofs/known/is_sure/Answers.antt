@@ -3,10 +3,10 @@ use mathlib.Core.Path.{refl}
 use Rattle.sure.specs.Sure.{sure_row}
 use Rattle.sure.proofs.known.is_sure.Goals as goal
 
-pub returns-in-NoOverlay : goal.returns-in-NoOverlay
+pub returns-in-None : goal.returns-in-None
 unfolding sure_row
-returns-in-NoOverlay c = rw (c.in-NoOverlay.is, c.are_sure.ensures, c.fills_row.ensures)
+returns-in-None c = rw (c.in-None.is, c.are_sure.ensures, c.fills_row.ensures)
 
-pub returns-in-Over : goal.returns-in-Over
+pub returns-in-Some : goal.returns-in-Some
 unfolding sure_row
-returns-in-Over c = rw (c.in-Over.is, c.are_sure-in-Over.ensures, c.are_sure-in-Over-2.ensures) refl
+returns-in-Some c = rw (c.in-Some.is, c.are_sure-in-Some.ensures, c.are_sure-in-Some-2.ensures) refl
