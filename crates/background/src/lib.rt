@@ -29,7 +29,11 @@ pub fn background_block(
 {
     let b = blocks::row_block(mem, linear, p, back)?;
     let redefinition = b.redefinition;
-    let FormatRead { format, words } = blocks::redefinition(mem, linear, redefinition, format)?;
+    let read = blocks::redefinition(mem, linear, redefinition, format);
+    let FormatRead { format, words } = match read {
+        Ok(read) => read,
+        Err(fault) => return Err(fault),
+    };
     let link = b.link;
     let count = b.count;
     let block = BlockHead {

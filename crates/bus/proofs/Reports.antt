@@ -1,20 +1,19 @@
 -- What is so of every row's figures, and of the report over any list of rows handed in: the totals are the sums over the accepted rows,
 -- with the first of the largest; and rows whose sums fit are all accepted.
-use Rattle.std.proofs.Common.{Some, None, Ok}
-use mathlib.Core.Path.{◌≡◌, refl, sym, ap, ◌∙◌}
+use Rattle.std.proofs.Common.{Ok}
+use mathlib.Core.Path.{◌≡◌, refl, sym, ap, subst, ◌∙◌}
 use mathlib.Core.Bool.{Bool, true, false}
 use mathlib.Core.List.{List, [], ◌∷◌}
 use Prim.Native.Nat.{ℕ, zero, suc, ◌+◌, ◌-◌, ◌*◌, ◌/◌, ◌^◌, ◌<◌, ◌≤◌}
 use native.Mathlib.Omega.{arith}
 use native.Mathlib.Nat.{div-add-mod', mod-lt, suc-mul, zero-mul, le-mul_of_pos_right, mul-le-mul_right}
-use lib.Dec.{eqb, leb}
-use borrow.Author.Tests.{ne_eqb, eqb-false, lt-ltb, leb-true, leb-false}
+use lib.Dec.{eqb, ltb}
+use borrow.Author.Tests.{ne_eqb, eqb-false, lt-ltb, ltb-true, ltb-false}
 use Rattle.memory.proofs.ReadBounds.{if-cases}
 use Rattle.bus.specs.declared.BusRow.{BusRow}
-use Rattle.bus.specs.declared.LargestRow.{LargestRow}
 use Rattle.bus.specs.declared.Totals.{Totals}
 use Rattle.bus.specs.declared.Reported.{Reported}
-use Rattle.bus.specs.Bus.{burst_space, burst_count, bursts, gaps, released, figures, none, as_largest, larger, added, all_fit, refuse, reported}
+use Rattle.bus.specs.Bus.{burst_space, burst_count, bursts, gaps, released, figures, none, larger, added, all_fit, refuse, reported}
 use Rattle.bus.specs.Rows.{report, counted, accepted, sum, words_of, bursts_of, released_of, AtMost, empty, more, FirstLargest, here, later, Tells, Largest, no_row, of_row, Counting, none_left, counting}
 use Rattle.bus.proofs.BusLaws.{no_words, kept-bus, rounded-up}
 
@@ -112,57 +111,82 @@ module _ (t : Totals) (hs : List BusRow) where
   released-summed = total-is released_of (λ (t : Totals). t.released) (λ t h. refl) t hs
 
 -- ---- the largest ----
--- what the totals u tell after rows hs that are counted while l is the largest: it is so still, or they tell the first of the largest
-data Passed (l : LargestRow) (u : Totals) (hs : List BusRow) : Type 0 where
-  stands : AtMost l.words hs → u.largest ≡ Some l → Passed l u hs
-  passed : {r : BusRow} → l.words < r.words → FirstLargest r hs → Tells u r → Passed l u hs
+-- what the totals u tell after rows hs that are counted from totals t with a row: the same row as before, or the first of the largest
+data Passed (t u : Totals) (hs : List BusRow) : Type 0 where
+  stands : AtMost t.largest hs → u.largest ≡ t.largest → u.screen ≡ t.screen → u.row ≡ t.row → Passed t u hs
+  passed : {r : BusRow} → t.largest < r.words → FirstLargest r hs → Tells u r → Passed t u hs
 
--- one more row in front
-more-words : (l : LargestRow) (h : BusRow) {u : Totals} {hs : List BusRow} → l.words < h.words → Passed (as_largest h) u hs → Passed l u (h ∷ hs)
-more-words l h k (stands a e) = passed {r = h} k (here a) e
-more-words l h k (passed {r} m f e) = passed {r = r} (omega arith) (later {h = h} m f) e
+-- a row that takes the largest's place, and one that does not
+module _ (t : Totals) (h : BusRow) where
+  takes : larger t h ≡ true → Tells (added t h) h
+  unfolding added
+  takes e = record { words = rw e; screen = rw e; row = rw e }
 
-no-more-words : (l : LargestRow) (h : BusRow) {u : Totals} {hs : List BusRow} → h.words ≤ l.words → Passed l u hs → Passed l u (h ∷ hs)
-no-more-words l h k (stands a e) = stands (more k a) e
-no-more-words l h k (passed {r} m f e) = passed {r = r} m (later {h = h} (omega arith) f) e
+  leaves : larger t h ≡ false → ((added t h).largest ≡ t.largest) × ((added t h).screen ≡ t.screen) × ((added t h).row ≡ t.row)
+  unfolding added
+  leaves e = (rw e, rw e, rw e)
 
-largest-now : (t : Totals) (h : BusRow) → (added t h).largest ≡ Some (larger t.largest h)
+  first-takes : t.any ≡ false → larger t h ≡ true
+  first-takes e = rw e
+
+  then-more : t.any ≡ true → larger t h ≡ ltb t.largest h.words
+  then-more e = rw e
+
+at_most : {m n : ℕ} {hs : List BusRow} → m ≡ n → AtMost m hs → AtMost n hs
+at_most {hs} e a = subst (λ (n : ℕ). AtMost n hs) e a
+
+-- one more row in front, from totals with a row
+more-words : (t : Totals) (h : BusRow) {u : Totals} {hs : List BusRow} → t.largest < h.words → Tells (added t h) h → Passed (added t h) u hs → Passed t u (h ∷ hs)
+more-words t h l e (stands a w s r) =
+    passed l (here (at_most e.words a)) (record { words = w ∙ e.words; screen = s ∙ e.screen; row = r ∙ e.row })
+more-words t h l e (passed {r} k f i) = passed {r = r} (omega (arith, e.words)) (later {h = h} (omega (arith, e.words)) f) i
+
+no-more-words : (t : Totals) (h : BusRow) {u : Totals} {hs : List BusRow} → h.words ≤ t.largest
+    → ((added t h).largest ≡ t.largest) × ((added t h).screen ≡ t.screen) × ((added t h).row ≡ t.row) → Passed (added t h) u hs → Passed t u (h ∷ hs)
+no-more-words t h l e (stands a w s r) = stands (more l (at_most e.0 a)) (w ∙ e.0) (s ∙ e.1) (r ∙ e.2)
+no-more-words t h l e (passed {r} k f i) = passed {r = r} (omega (arith, e.0)) (later {h = h} (omega (arith, e.0)) f) i
+
+still-any : (t : Totals) (h : BusRow) → (added t h).any ≡ true
 unfolding added
-largest-now t h = refl
+still-any t h = refl
 
-passing : (t : Totals) (hs : List BusRow) (l : LargestRow) → t.largest ≡ Some l → Passed l (report t hs) (accepted t hs)
+passing : (t : Totals) (hs : List BusRow) → t.any ≡ true → Passed t (report t hs) (accepted t hs)
 unfolding report accepted
-passing t [] l e = stands empty e
-passing t (h ∷ hs) l e = by-report (reports t h) (passing (reported t h).totals hs)
+passing t [] a = stands empty refl refl refl
+passing t (h ∷ hs) a = by-report (reports t h) (passing (reported t h).totals hs)
   where
-    by-more : (b : Bool) → leb h.words l.words ≡ b → {u : Totals} {hs : List BusRow}
-        → ((k : LargestRow) → (added t h).largest ≡ Some k → Passed k u hs) → Passed l u (h ∷ hs)
-    by-more true q i = no-more-words l h (leb-true _ _ q) (i l (largest-now t h ∙ rw (e, q)))
-    by-more false q i = more-words l h (leb-false _ _ q) (i (as_largest h) (largest-now t h ∙ rw (e, q)))
+    by-more : (b : Bool) → ltb t.largest h.words ≡ b → {u : Totals} {hs : List BusRow} → Passed (added t h) u hs → Passed t u (h ∷ hs)
+    by-more true e = more-words t h (ltb-true _ _ e) (takes t h (then-more t h a ∙ e))
+    by-more false e = no-more-words t h (ltb-false _ _ e) (leaves t h (then-more t h a ∙ e))
 
-    by-report : {r : Reported} → Reports t h r → ((k : LargestRow) → r.totals.largest ≡ Some k → Passed k (report r.totals hs) (accepted r.totals hs))
-        → Passed l (report r.totals hs) (counted r.answer h (accepted r.totals hs))
-    by-report counts i = by-more (leb h.words l.words) refl i
-    by-report (refuses n) i = i l e
+    by-report : {r : Reported} → Reports t h r → (r.totals.any ≡ true → Passed r.totals (report r.totals hs) (accepted r.totals hs))
+        → Passed t (report r.totals hs) (counted r.answer h (accepted r.totals hs))
+    by-report counts i = by-more (ltb t.largest h.words) refl (i (still-any t h))
+    by-report (refuses n) i = i a
 
 -- the first row in front
-first-row : (h : BusRow) {u : Totals} {hs : List BusRow} → Passed (as_largest h) u hs → Largest u (h ∷ hs)
-first-row h (stands a e) = of_row {r = h} (here a) e
-first-row h (passed {r} k f e) = of_row {r = r} (later {h = h} k f) e
+first-row : (t : Totals) (h : BusRow) {u : Totals} {hs : List BusRow} → Tells (added t h) h → Passed (added t h) u hs → Largest u (h ∷ hs)
+first-row t h e (stands a w s r) =
+    of_row (here (at_most e.words a)) (record { words = w ∙ e.words; screen = s ∙ e.screen; row = r ∙ e.row })
+first-row t h e (passed {r} k f i) = of_row {r = r} (later {h = h} (omega (arith, e.words)) f) i
 
-no_largest : none.largest ≡ None
+none_told : Largest none []
 unfolding none
-no_largest = refl
+none_told = no_row refl refl refl
 
--- the totals of rows handed in from the first on tell the first of the largest of the accepted ones, and none while there is none
+none_any : none.any ≡ false
+unfolding none
+none_any = refl
+
+-- the totals of rows handed in from the first on tell the first of the largest of the accepted ones; 0 and 0 while there is none
 pub largest-told : (hs : List BusRow) → Largest (report none hs) (accepted none hs)
 unfolding report accepted
-largest-told [] = no_row no_largest
+largest-told [] = none_told
 largest-told (h ∷ hs) = by-report (reports none h) (largest-told hs)
   where
     by-report : {r : Reported} → Reports none h r → Largest (report none hs) (accepted none hs)
         → Largest (report r.totals hs) (counted r.answer h (accepted r.totals hs))
-    by-report counts i = first-row h (passing (added none h) hs (as_largest h) (largest-now none h ∙ rw no_largest))
+    by-report counts i = first-row none h (takes none h (first-takes none h none_any)) (passing (added none h) hs (still-any none h))
     by-report (refuses n) i = i
 
 -- ---- rows that are all accepted ----

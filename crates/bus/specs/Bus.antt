@@ -1,10 +1,9 @@
 -- Document 02 §10, "How much of the bus a screen takes": what a row takes, and the running totals.
-use Rattle.std.specs.Prelude.{ℕ, ◌+◌, ◌-◌, ◌*◌, ◌/◌, ◌^◌, Bool, ◌&&◌, ltb, leb, eqb, Option, Some, None, unwrap_or, Ok, Err}
+use Rattle.std.specs.Prelude.{ℕ, ◌+◌, ◌-◌, ◌*◌, ◌/◌, ◌^◌, Bool, true, false, ◌&&◌, ◌||◌, not, ltb, eqb, Ok, Err}
 use Rattle.memory.specs.Word.{when◌then◌else◌, high, low}
 use Rattle.memory.specs.declared.Refusal.{Refusal}
 use Rattle.bus.specs.declared.BusRow.{BusRow}
 use Rattle.bus.specs.declared.Figures.{Figures}
-use Rattle.bus.specs.declared.LargestRow.{LargestRow}
 use Rattle.bus.specs.declared.Totals.{Totals}
 use Rattle.bus.specs.declared.Reported.{Reported}
 
@@ -32,30 +31,24 @@ released burst words = 15 * (burst_space burst * gaps burst words)
 abbrev pub figures : BusRow → Figures
 figures h = record { bursts = bursts h.burst h.words; released = released h.burst h.words }
 
--- the totals before any row
+-- the totals before any row: "0 and 0 while none"
 unfoldable pub none : Totals
-none = record { words = 0; bursts = 0; released = 0; largest = None }
-
--- a row as the largest: "with screen and row, as handed in, of the largest word count"
-abbrev pub as_largest : BusRow → LargestRow
-as_largest h = record { words = h.words; screen = h.screen; row = h.row }
+none = record { words = 0; bursts = 0; released = 0; largest = 0; screen = 0; row = 0; any = false }
 
 -- "of the largest word count, the first if several": a later row has to have more words
-abbrev pub larger : Option LargestRow → BusRow → LargestRow
-larger None h = as_largest h
-larger (Some l) h = when leb h.words l.words then l else as_largest h
+abbrev pub larger : Totals → BusRow → Bool
+larger t h = not t.any || ltb t.largest h.words
 
--- the largest as it is told: "0 and 0 while none"
-abbrev pub told : Option LargestRow → LargestRow
-told largest = unwrap_or largest (record { words = 0; screen = 0; row = 0 })
-
--- "per row and summed"
+-- "per row and summed, with screen and row, as handed in, of the largest word count"
 unfoldable pub added : Totals → BusRow → Totals
 added t h = record {
   words = t.words + h.words;
   bursts = t.bursts + (figures h).bursts;
   released = t.released + (figures h).released;
-  largest = Some (larger t.largest h);
+  largest = when larger t h then h.words else t.largest;
+  screen = when larger t h then h.screen else t.screen;
+  row = when larger t h then h.row else t.row;
+  any = true;
 }
 
 -- "Sums in 64 bits."

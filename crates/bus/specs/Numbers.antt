@@ -1,12 +1,10 @@
 -- The totals and a row's figures as numbers at fixed places of lent slices, and what a row's report leaves there.
-use Rattle.std.specs.Prelude.{ℕ, List, [], ◌∷◌, eqb, Some, None, is_some, Result, Ok, Err}
+use Rattle.std.specs.Prelude.{ℕ, List, [], ◌∷◌, eqb, Result, Ok, Err}
 use Rattle.memory.specs.Word.{when◌then◌else◌, at}
 use Rattle.memory.specs.declared.Refusal.{Refusal}
 use Rattle.bus.specs.declared.Figures.{Figures}
-use Rattle.bus.specs.declared.LargestRow.{LargestRow}
 use Rattle.bus.specs.declared.Totals.{Totals}
 use Rattle.bus.specs.declared.Reported.{Reported}
-use Rattle.bus.specs.Bus.{told}
 
 -- the totals; the last place says whether a row was handed in
 unfoldable pub totals_at : List ℕ → Totals
@@ -14,13 +12,15 @@ totals_at xs = record {
   words = at xs 0;
   bursts = at xs 1;
   released = at xs 2;
-  largest = when eqb (at xs 6) 1 then Some (record { words = at xs 3; screen = at xs 4; row = at xs 5 }) else None;
+  largest = at xs 3;
+  screen = at xs 4;
+  row = at xs 5;
+  any = eqb (at xs 6) 1;
 }
 
 unfoldable pub totals_numbers : Totals → List ℕ
 totals_numbers t =
-    let largest : LargestRow = told t.largest in
-    t.words ∷ t.bursts ∷ t.released ∷ largest.words ∷ largest.screen ∷ largest.row ∷ (when is_some t.largest then 1 else 0) ∷ []
+    t.words ∷ t.bursts ∷ t.released ∷ t.largest ∷ t.screen ∷ t.row ∷ (when t.any then 1 else 0) ∷ []
 
 -- a row's bursts and its least released time
 abbrev pub figures_numbers : Figures → List ℕ

@@ -1,9 +1,9 @@
 -- Document 02 §10, "Over any number of screens": the report over the rows handed in, first to last.
-use Rattle.std.specs.Prelude.{ℕ, ◌+◌, ◌<◌, ◌≤◌, ◌≡◌, List, [], ◌∷◌, Some, None, Result, Ok, Err}
+use Rattle.std.specs.Prelude.{ℕ, ◌+◌, ◌<◌, ◌≤◌, ◌≡◌, List, [], ◌∷◌, Result, Ok, Err}
 use Rattle.memory.specs.declared.Refusal.{Refusal}
 use Rattle.bus.specs.declared.BusRow.{BusRow}
 use Rattle.bus.specs.declared.Totals.{Totals}
-use Rattle.bus.specs.Bus.{burst_count, figures, as_largest, reported}
+use Rattle.bus.specs.Bus.{burst_count, figures, reported}
 use Rattle.bus.specs.declared.Figures.{Figures}
 
 -- the totals after the rows
@@ -45,12 +45,14 @@ pub data FirstLargest (r : BusRow) : List BusRow → Type 0 where
   later : {h : BusRow} {hs : List BusRow} → h.words < r.words → FirstLargest r hs → FirstLargest r (h ∷ hs)
 
 -- totals that tell a row as the largest
-abbrev pub Tells : Totals → BusRow → Type 0
-Tells t r = t.largest ≡ Some (as_largest r)
+pub record Tells (t : Totals) (r : BusRow) : Type 0 where
+  pub words : t.largest ≡ r.words
+  pub screen : t.screen ≡ r.screen
+  pub row : t.row ≡ r.row
 
 -- what the totals tell after rows: "the first if several, 0 and 0 while none"
 pub data Largest (t : Totals) : List BusRow → Type 0 where
-  no_row : t.largest ≡ None → Largest t []
+  no_row : t.largest ≡ 0 → t.screen ≡ 0 → t.row ≡ 0 → Largest t []
   of_row : {r : BusRow} {hs : List BusRow} → FirstLargest r hs → Tells t r → Largest t hs
 
 -- rows with a burst count

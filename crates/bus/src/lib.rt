@@ -1,7 +1,8 @@
 #![tactic(auto)]
 // How much of the bus a screen takes: a row's bursts and its least released time, and the running totals of the rows handed in.
 ghost use Rattle.std.specs.Prelude.{◌≡◌, true, ◌+◌, ◌-◌, ◌*◌, ◌<◌, ◌≤◌};
-ghost use Rattle.bus.specs.Bus.{burst_space, burst_count, bursts, figures, none, told, larger, added, fits, all_fit, refuse, reported};
+ghost use Rattle.memory.specs.Word.{when◌then◌else◌};
+ghost use Rattle.bus.specs.Bus.{burst_space, burst_count, bursts, figures, none, added, fits, all_fit, refuse, reported};
 
 use memory::Refusal;
 
@@ -23,21 +24,17 @@ pub struct Figures {
     pub released: u64,
 }
 
-// The largest word count, with the screen and row as they were handed in.
-#[derive(Clone, Copy)]
-pub struct LargestRow {
-    pub words: u64,
-    pub screen: u64,
-    pub row: u64,
-}
-
-// The running totals: the sums over the rows, and the largest row once there is one.
+// The running totals: the sums over the rows, the largest word count with its screen and row, and whether a row was handed in.
+// While none was, any numbers may stand for the largest row.
 #[derive(Clone, Copy)]
 pub struct Totals {
     pub words: u64,
     pub bursts: u64,
     pub released: u64,
-    pub largest: Option<LargestRow>,
+    pub largest: u64,
+    pub screen: u64,
+    pub row: u64,
+    pub any: bool,
 }
 
 // The totals after a row, and the row's answer.
@@ -95,19 +92,11 @@ pub fn none() -> Totals
         words: 0,
         bursts: 0,
         released: 0,
-        largest: None,
-    }
-}
-
-// The largest row as it is told: 0, 0 and 0 while there is none.
-pub fn largest_told(totals: Totals) -> LargestRow
-    ensures { result ≡ told totals.largest }
-{
-    totals.largest.unwrap_or(LargestRow {
-        words: 0,
+        largest: 0,
         screen: 0,
         row: 0,
-    })
+        any: false,
+    }
 }
 
 // A refusal, with the totals unchanged.
@@ -181,25 +170,21 @@ fn with_row(t: Totals, row: BusRow, f: Figures) -> Totals
     requires { (f ≡ figures row) × (all_fit (added t row) ≡ true) }
     ensures { result ≡ added t row }
 {
+    let words = row.words as u64;
+    let new = !t.any | (t.largest < words);
     Totals {
-        words: t.words + row.words as u64,
+        words: t.words + words,
         bursts: t.bursts + f.bursts,
         released: t.released + f.released,
-        largest: Some(larger(t.largest, row)),
+        largest: pick(new, words, t.largest),
+        screen: pick(new, row.screen as u64, t.screen),
+        row: pick(new, row.row as u64, t.row),
+        any: true,
     }
 }
 
-// The largest row with one more handed in: of several the first.
-fn larger(largest: Option<LargestRow>, row: BusRow) -> LargestRow
-    ensures { result ≡ larger largest row }
+fn pick(test: bool, a: u64, b: u64) -> u64
+    ensures { result ≡ (when test then a else b) }
 {
-    let words = row.words as u64;
-    match largest {
-        Some(l) if words <= l.words => l,
-        _ => LargestRow {
-            words,
-            screen: row.screen as u64,
-            row: row.row as u64,
-        },
-    }
+    if test { a } else { b }
 }

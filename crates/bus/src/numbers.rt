@@ -2,7 +2,7 @@
 ghost use Rattle.std.specs.Prelude.{◌≡◌};
 ghost use Rattle.bus.specs.Numbers.{totals_at, totals_numbers, called, after_bus};
 
-use crate::{Figures, LargestRow, Reported, Totals};
+use crate::{Reported, Totals};
 
 // A row's report, in the slices of its call; the call's status.
 pub fn write_report(r: Reported, totals: &mut [u64; 7], answer: &mut [u64; 2]) -> u8
@@ -23,16 +23,14 @@ pub fn write_report(r: Reported, totals: &mut [u64; 7], answer: &mut [u64; 2]) -
 pub fn totals_at(n: &[u64; 7]) -> Totals
     ensures { result ≡ totals_at n.now }
 {
-    let largest = LargestRow {
-        words: n[3],
-        screen: n[4],
-        row: n[5],
-    };
     Totals {
         words: n[0],
         bursts: n[1],
         released: n[2],
-        largest: (n[6] == 1).then_some(largest),
+        largest: n[3],
+        screen: n[4],
+        row: n[5],
+        any: n[6] == 1,
     }
 }
 
@@ -40,14 +38,13 @@ pub fn totals_at(n: &[u64; 7]) -> Totals
 fn write_totals(t: Totals, into: &mut [u64; 7])
     ensures { into.new ≡ totals_numbers t }
 {
-    let largest = crate::largest_told(t);
     *into = [
         t.words,
         t.bursts,
         t.released,
-        largest.words,
-        largest.screen,
-        largest.row,
-        t.largest.is_some() as u64,
+        t.largest,
+        t.screen,
+        t.row,
+        t.any as u64,
     ];
 }

@@ -3,7 +3,6 @@ use Rattle.std.specs.Prelude.{ℕ, List, ◌++◌}
 use Rattle.bus.specs.declared.BusRow.{BusRow}
 use Rattle.bus.specs.declared.Figures.{Figures}
 use Rattle.bus.specs.declared.Totals.{Totals}
-use Rattle.bus.specs.Bus.{told}
 use Rattle.lines.specs.Lines.{text, decimal}
 
 -- "row 0: words 19, bursts 3, clocks released at least 480"
@@ -21,5 +20,4 @@ total_line t =
 -- "largest: words 19, screen 0, row 0"
 unfoldable pub largest_line : Totals → List ℕ
 largest_line t =
-    text "largest: words " ++ decimal (told t.largest).words ++ text ", screen " ++ decimal (told t.largest).screen
-    ++ text ", row " ++ decimal (told t.largest).row ++ text "\n"
+    text "largest: words " ++ decimal t.largest ++ text ", screen " ++ decimal t.screen ++ text ", row " ++ decimal t.row ++ text "\n"

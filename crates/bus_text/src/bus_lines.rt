@@ -24,9 +24,8 @@ pub(crate) fn total_lines(t: Totals, out: &mut [u8; 2048]) -> usize
     let mut at = put_number(out, 0, b"all rows: words ", t.words);
     at = put_number(out, at, b", bursts ", t.bursts);
     at = put_number(out, at, b", clocks released at least ", t.released);
-    let largest = bus::largest_told(t);
-    at = put_number(out, at, b"\nlargest: words ", largest.words);
-    at = put_number(out, at, b", screen ", largest.screen);
-    at = put_number(out, at, b", row ", largest.row);
+    at = put_number(out, at, b"\nlargest: words ", t.largest);
+    at = put_number(out, at, b", screen ", t.screen);
+    at = put_number(out, at, b", row ", t.row);
     put_end(out, at)
 }

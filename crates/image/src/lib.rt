@@ -38,11 +38,13 @@ pub fn feed(script: Script, bytes: &[u8], registers: &mut [u16; 25], mem: &mut [
 fn read_byte(script: Script, byte: u8, registers: &mut [u16; 25], mem: &mut [u16; 16384]) -> Step
     ensures { fed result registers.new mem.new ≡ byte_of script byte registers.old mem.old }
 {
-    let step = script::read_byte(script, byte, mem);
-    if let Step::More(next) = step {
-        note(next, registers);
+    match script::read_byte(script, byte, mem) {
+        Step::More(next) => {
+            note(next, registers);
+            Step::More(next)
+        }
+        ended => ended,
     }
-    step
 }
 
 // The value of a register whose record has just ended, put in its place; an accepted one is inside.

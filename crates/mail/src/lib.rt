@@ -113,9 +113,10 @@ fn put(out: &mut [u8], at: usize, text: &[u8]) -> usize
     requires { at + length text.now ≤ length out.old }
     ensures { Put at text.now out.old result out.new }
 {
-    let end = at + text.len();
-    out[at..end].copy_from_slice(text);
-    end
+    for (i, &byte) in text.iter().enumerate() {
+        out[at + i] = byte;
+    }
+    at + text.len()
 }
 
 // The character of a cell, or `?`.

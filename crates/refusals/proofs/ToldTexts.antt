@@ -1,5 +1,4 @@
 -- The same of a bus report and of the calls on a row's text; and an example of each number.
-use Rattle.std.proofs.Common.{None}
 use mathlib.Core.Path.{◌≡◌, refl}
 use mathlib.Core.Bool.{true, false}
 use mathlib.Core.List.{List, [], ◌∷◌, ◌++◌}
@@ -58,7 +57,7 @@ one_word burst = record { burst = burst; words = 1; screen = 0; row = 0 }
 
 -- burst count 0; a sum of words that needs 65 bits
 abbrev full : Totals
-full = record { words = 2 ^ 64 - 1; bursts = 0; released = 0; largest = None }
+full = record { words = 2 ^ 64 - 1; bursts = 0; released = 0; largest = 0; screen = 0; row = 0; any = true }
 
 pub reports : of_bus (reported none (one_word 0x100)).answer ++ of_bus (reported full (one_word 0x101)).answer ≡ bus_numbers
 unfolding reported added bursts released none

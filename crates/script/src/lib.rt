@@ -67,10 +67,14 @@ pub fn at_end(script: Script) -> u64
 pub fn read_byte(script: Script, byte: u8, mem: &mut [u16; 16384]) -> Step
     ensures { stepped result mem.new ≡ step_of script byte mem.old }
 {
-    match script.left {
-        0 => begin_record(script, byte),
-        1 => end_record(take(script, byte), mem),
-        _ => Step::More(take(script, byte)),
+    if script.left == 0 {
+        return begin_record(script, byte);
+    }
+    let s = take(script, byte);
+    if script.left == 1 {
+        end_record(s, mem)
+    } else {
+        Step::More(s)
     }
 }
 
@@ -78,17 +82,22 @@ pub fn read_byte(script: Script, byte: u8, mem: &mut [u16; 16384]) -> Step
 fn begin_record(s: Script, kind: u8) -> Step
     ensures { result ≡ begun s kind }
 {
-    match kind {
-        0 => Step::Draw(s.settings),
-        1..=3 => Step::More(Script {
-            settings: s.settings,
+    if kind == 0 {
+        let settings = s.settings;
+        return Step::Draw(settings);
+    }
+    if kind <= 3 {
+        let settings = s.settings;
+        Step::More(Script {
+            settings,
             read: count(s.read),
             start: s.read,
             kind,
             left: body_length(kind),
             body: 0,
-        }),
-        _ => Step::Refused(s.read),
+        })
+    } else {
+        Step::Refused(s.read)
     }
 }
 

@@ -80,7 +80,9 @@ fn read_named<'a>(
     name: &[u8],
     ending: &[u8],
     buffer: &'a mut [u8],
-) -> &'a [u8] {
+) -> &'a [u8]
+    ensures { length result.now ≤ length buffer.old }
+{
     let mut path = [0u8; 64];
     let n = put(name, 0, &mut path);
     let end = put(ending, n, &mut path);
@@ -99,7 +101,9 @@ fn put(text: &[u8], at: usize, out: &mut [u8]) -> usize
 }
 
 // The bytes of a file. One that cannot be opened or does not fit counts as empty, and no output is empty.
-fn read_file<'a>(rt: &(impl Files + Eprint), path: &[u8], buffer: &'a mut [u8]) -> &'a [u8] {
+fn read_file<'a>(rt: &(impl Files + Eprint), path: &[u8], buffer: &'a mut [u8]) -> &'a [u8]
+    ensures { length result.now ≤ length buffer.old }
+{
     let text = std::str::from_utf8(path).unwrap_or("");
     match File::open(rt, text) {
         Ok(mut file) => {

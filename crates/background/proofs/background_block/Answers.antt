@@ -7,20 +7,20 @@ use Rattle.background.proofs.background_block.Goals as goal
 
 pub overflow_add-block : goal.overflow_add-block
 overflow_add-block c =
-    let t = sym (rw c.in_ok-format.was at c.redefinition.ensures) in
+    let t = sym (rw c.in-Ok.is at c.redefinition-read.ensures) in
     let b = sym (rw c.in_ok-b.was at c.row_block.ensures) in
     omega (arith, block_words _ _ _ _ b t (λ i. (c.type_inv.mem i).fits))
 
 pub returns : goal.returns
 returns c =
-    let t = sym (rw c.in_ok-format.was at c.redefinition.ensures) in
+    let t = sym (rw c.in-Ok.is at c.redefinition-read.ensures) in
     let b = sym (rw c.in_ok-b.was at c.row_block.ensures) in
     sym (block_read _ _ _ _ b t)
 
-pub returns-in_err-format : goal.returns-in_err-format
-returns-in_err-format c =
+pub returns-in-Err : goal.returns-in-Err
+returns-in-Err c =
     let b = sym (rw c.in_ok-b.was at c.row_block.ensures) in
-    rw (exit _ c.from_residual-in_err-format.ensures.1) (sym (format-refused _ _ _ _ b (sym (rw c.in_err-format.was at c.redefinition.ensures))))
+    sym (format-refused _ _ _ _ b (sym (rw c.in-Err.is at c.redefinition-read.ensures)))
 
 pub returns-in_err-b : goal.returns-in_err-b
 returns-in_err-b c =

@@ -1,4 +1,4 @@
--- The sums fit, and the largest row is the definition's.
+-- The sums fit, and each number of the largest row is picked by the test that the definition has.
 use mathlib.Core.Path.{ap}
 use native.Mathlib.Omega.{arith}
 use Rattle.bus.specs.declared.Figures.{Figures}
@@ -20,4 +20,4 @@ overflow_add-result-3 c = omega (arith, (totals-fit (added c.args.t c.args.row) 
 
 pub returns : goal.returns
 unfolding added
-returns c = rw (c.larger.ensures, c.requires.0)
+returns c = rw (c.pick-3.ensures, c.pick-2.ensures, c.pick.ensures, c.requires.0)

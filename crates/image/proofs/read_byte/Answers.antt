@@ -6,9 +6,9 @@ use Rattle.image.proofs.read_byte.Goals as goal
 pub returns-in-More : goal.returns-in-More
 unfolding byte_of
 returns-in-More c =
-    rw (← c.read_byte-step.ensures, c.in-More.is, c.note.ensures)
+    rw (← c.read_byte.ensures, c.in-More.is, c.note.ensures)
 
 pub returns-in_default : goal.returns-in_default
 unfolding byte_of
 returns-in_default c =
-    rw (← c.read_byte-step.ensures, none-noted _ _ c.in_default.not-More)
+    rw (← c.read_byte.ensures, none-noted _ _ c.in_default.not-More)

@@ -1,14 +1,29 @@
--- The text is copied to its place, and the list else stays.
-use mathlib.Core.Path.{refl}
+-- After i turns the first i bytes of the text stand after `at`, and the buffer is else as it was; the loop ends with all.
+use mathlib.Core.Path.{◌≡◌, refl}
 use native.Mathlib.Omega.{arith}
-use Rattle.std.proofs.lemmas.Slice.{take-put_mid, drop-put_mid}
+use native.Mathlib.Numerals.{add-one}
+use lib.ListN.{length, length-set}
+use lib.Seq.{paste-zero, paste-suc, take-paste, drop-paste, take_all}
 use Rattle.mail.proofs.put.Goals as goal
+
+pub loop-i-init : goal.loop-i-init
+loop-i-init c = (refl, paste-zero c.args.out.now c.args.at c.args.text.now)
+
+pub loop-i-preserved : goal.loop-i-preserved
+loop-i-preserved c =
+    let l = c.loop-i in
+    let a = c.args in (
+      simp length-set l.invariant.0,
+      rw (l.invariant.1, add-one l.i) (paste-suc a.out.now a.at a.text.now l.i 0 (omega arith) (omega arith)),
+    )
 
 pub returns : goal.returns
 returns c =
+    let l = c.loop-i in
     let a = c.args in
+    let all : length a.text.now ≡ l.i = omega arith in
     record {
       ends = refl;
-      front = rw c.copy_from_slice.ensures.after (take-put_mid a.at _ a.out.now a.text.now _ refl (omega arith));
-      past = rw c.copy_from_slice.ensures.after (drop-put_mid a.at _ a.out.now a.text.now _ (omega arith) (omega arith) (omega arith));
+      front = rw (l.invariant.1, all, take-paste a.out.now a.at a.text.now l.i (omega arith) (omega arith), take_all l.i a.text.now (omega arith));
+      past = rw (l.invariant.1, all) (drop-paste a.out.now a.at a.text.now l.i (omega arith) (omega arith));
     }

@@ -1,23 +1,22 @@
--- The cases of the kind are the definition's.
-use Rattle.std.proofs.Common.{◌≢◌, ◌≤◌, ◌<◌, arith, ne_eqb, le-leb}
+-- The tests of the kind are the definition's, and each way out gives its case.
+use Rattle.std.proofs.Common.{eq-eqb, ne_eqb, le-leb}
 use borrow.Author.Tests.{lt-leb}
 use Rattle.script.specs.Feeding.{begun}
 use Rattle.script.proofs.begin_record.Goals as goal
 
-pub returns-in-0 : goal.returns-in-0
+-- The tests of the kind are the definition's, and each way out gives its case.
+pub returns-then-kind-eq0 : goal.returns-then-kind-eq0
 unfolding begun
-returns-in-0 c = rw c.in-0.is
+returns-then-kind-eq0 c = rw (eq-eqb c.args.kind 0 c.if-kind-eq0.true)
 
-pub returns-in-1-to-3 : goal.returns-in-1-to-3
+pub returns-then-kind-le3 : goal.returns-then-kind-le3
 unfolding begun
-returns-in-1-to-3 c =
-    let some : c.args.kind ≢ 0 = omega arith in
-    let known : c.args.kind ≤ 3 = omega arith in
-    rw (c.count.ensures, c.body_length.ensures, ne_eqb _ 0 some, le-leb _ 3 known)
+returns-then-kind-le3 c =
+    let kind = c.args.kind in
+    rw (c.count.ensures, c.body_length.ensures, ne_eqb kind 0 c.if-kind-eq0.false, le-leb kind 3 c.if-kind-le3.true)
 
-pub returns-in_default : goal.returns-in_default
+pub returns-else-kind-le3 : goal.returns-else-kind-le3
 unfolding begun
-returns-in_default c =
-    let some : c.args.kind ≢ 0 = omega arith in
-    let unknown : 3 < c.args.kind = omega arith in
-    rw (ne_eqb _ 0 some, lt-leb _ 3 unknown)
+returns-else-kind-le3 c =
+    let kind = c.args.kind in
+    rw (ne_eqb kind 0 c.if-kind-eq0.false, lt-leb kind 3 c.if-kind-le3.false)

@@ -1,19 +1,18 @@
 -- A byte is one of kind where no body is awaited, else one of the body, and the last of a body ends its record.
-use Rattle.std.proofs.Common.{◌≢◌, arith, ne_eqb}
+use Rattle.std.proofs.Common.{eq-eqb, ne_eqb}
 use Rattle.script.specs.Feeding.{step_of}
 use Rattle.script.proofs.read_byte.Goals as goal
 
-pub returns-in-0 : goal.returns-in-0
+-- A byte is one of kind where no body is awaited, else one of the body, and the last of a body ends its record.
+pub returns-then-script-eq0 : goal.returns-then-script-eq0
 unfolding step_of
-returns-in-0 c = rw (c.begin_record.ensures, c.in-0.is)
+returns-then-script-eq0 c = rw (c.begin_record.ensures, eq-eqb _ 0 c.if-script-eq0.true)
 
-pub returns-in-1 : goal.returns-in-1
+pub returns-then-script-eq1 : goal.returns-then-script-eq1
 unfolding step_of
-returns-in-1 c = rw (c.end_record.ensures, c.take.ensures, c.in-1.is)
+returns-then-script-eq1 c =
+    rw (c.end_record.ensures, ne_eqb _ 0 c.if-script-eq0.false, eq-eqb _ 1 c.if-script-eq1.true, c.take-s.ensures)
 
-pub returns-in_default : goal.returns-in_default
+pub returns-else-script-eq1 : goal.returns-else-script-eq1
 unfolding step_of
-returns-in_default c =
-    let some : c.args.script.left ≢ 0 = omega arith in
-    let more : c.args.script.left ≢ 1 = omega arith in
-    rw (c.take-in_default.ensures, ne_eqb _ 0 some, ne_eqb _ 1 more)
+returns-else-script-eq1 c = rw (c.take-s.ensures, ne_eqb _ 0 c.if-script-eq0.false, ne_eqb _ 1 c.if-script-eq1.false)

@@ -5,4 +5,4 @@ use Rattle.bus.proofs.numbers.write_totals.Goals as goal
 
 pub returns : goal.returns
 unfolding totals_numbers
-returns c = rw (c.largest_told-largest.ensures, c.is_some.ensures, yes-number)
+returns c = rw yes-number

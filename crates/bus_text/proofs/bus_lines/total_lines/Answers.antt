@@ -3,7 +3,6 @@ use mathlib.Core.Path.{◌∙◌}
 use mathlib.Core.List.{List, ◌++◌}
 use Prim.Native.Nat.{ℕ}
 use Rattle.lines.specs.Lines.{text, decimal}
-use Rattle.bus.specs.Bus.{told}
 use Rattle.bus_text.specs.BusLines.{total_line, largest_line}
 use Rattle.bus_text.proofs.ReportLaws.{two-lines}
 use Rattle.bus_text.proofs.bus_lines.total_lines.Goals as goal
@@ -22,6 +21,6 @@ returns c =
       e.0,
       e.1,
       e.2
-          ∙ rw (c.put_number-at-6.ensures.1, c.put_number-at-5.ensures.1, fourth, third, second, first, c.largest_told-largest.ensures)
-          (two-lines sums (decimal (told t.largest).words) (decimal (told t.largest).screen) (decimal (told t.largest).row)),
+          ∙ rw (c.put_number-at-6.ensures.1, c.put_number-at-5.ensures.1, fourth, third, second, first)
+          (two-lines sums (decimal t.largest) (decimal t.screen) (decimal t.row)),
     )
