@@ -30,6 +30,7 @@ pub fn background_block(
     let b = blocks::row_block(mem, linear, p, back)?;
     let redefinition = b.redefinition;
     let read = blocks::redefinition(mem, linear, redefinition, format);
+    // no `?`, so that a wrong program can turn the refusal in its arm
     let FormatRead { format, words } = match read {
         Ok(read) => read,
         Err(fault) => return Err(fault),

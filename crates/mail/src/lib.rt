@@ -108,7 +108,7 @@ fn put_if(test: bool, out: &mut [u8], at: usize, text: &[u8]) -> usize
     if test { put(out, at, text) } else { at }
 }
 
-// `text` after the first `at` bytes of `out`; the bytes past it stay.
+// `text` after the first `at` bytes of `out`; the bytes past it stay. A `for`, as `copy_from_slice` is a call for these few bytes.
 fn put(out: &mut [u8], at: usize, text: &[u8]) -> usize
     requires { at + length text.now ≤ length out.old }
     ensures { Put at text.now out.old result out.new }

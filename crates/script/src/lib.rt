@@ -63,7 +63,7 @@ pub fn at_end(script: Script) -> u64
     script.read
 }
 
-// The next byte of a script.
+// The next byte of a script. Here and below tests in their order, and no match on numbers: that took a third longer.
 pub fn read_byte(script: Script, byte: u8, mem: &mut [u16; 16384]) -> Step
     ensures { stepped result mem.new ≡ step_of script byte mem.old }
 {
@@ -83,13 +83,11 @@ fn begin_record(s: Script, kind: u8) -> Step
     ensures { result ≡ begun s kind }
 {
     if kind == 0 {
-        let settings = s.settings;
-        return Step::Draw(settings);
+        return Step::Draw(s.settings);
     }
     if kind <= 3 {
-        let settings = s.settings;
         Step::More(Script {
-            settings,
+            settings: s.settings,
             read: count(s.read),
             start: s.read,
             kind,

@@ -11,10 +11,9 @@ loop-i-init c = (refl, paste-zero c.args.out.now c.args.at c.args.text.now)
 
 pub loop-i-preserved : goal.loop-i-preserved
 loop-i-preserved c =
-    let l = c.loop-i in
-    let a = c.args in (
+    let l = c.loop-i in (
       simp length-set l.invariant.0,
-      rw (l.invariant.1, add-one l.i) (paste-suc a.out.now a.at a.text.now l.i 0 (omega arith) (omega arith)),
+      rw (l.invariant.1, add-one l.i) (paste-suc _ _ _ l.i 0 (omega arith) (omega arith)),
     )
 
 pub returns : goal.returns

@@ -1,3 +1,4 @@
+-- After i turns the first i bytes of the text stand after `at`, and the buffer is else as it was.
 use mathlib.Core.Path.{◌≡◌}
 use lib.ListN.{length}
 use lib.Seq.{paste}

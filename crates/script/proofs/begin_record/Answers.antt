@@ -4,19 +4,15 @@ use borrow.Author.Tests.{lt-leb}
 use Rattle.script.specs.Feeding.{begun}
 use Rattle.script.proofs.begin_record.Goals as goal
 
--- The tests of the kind are the definition's, and each way out gives its case.
 pub returns-then-kind-eq0 : goal.returns-then-kind-eq0
 unfolding begun
-returns-then-kind-eq0 c = rw (eq-eqb c.args.kind 0 c.if-kind-eq0.true)
+returns-then-kind-eq0 c = rw (eq-eqb _ 0 c.if-kind-eq0.true)
 
 pub returns-then-kind-le3 : goal.returns-then-kind-le3
 unfolding begun
 returns-then-kind-le3 c =
-    let kind = c.args.kind in
-    rw (c.count.ensures, c.body_length.ensures, ne_eqb kind 0 c.if-kind-eq0.false, le-leb kind 3 c.if-kind-le3.true)
+    rw (c.count.ensures, c.body_length.ensures, ne_eqb _ 0 c.if-kind-eq0.false, le-leb _ 3 c.if-kind-le3.true)
 
 pub returns-else-kind-le3 : goal.returns-else-kind-le3
 unfolding begun
-returns-else-kind-le3 c =
-    let kind = c.args.kind in
-    rw (ne_eqb kind 0 c.if-kind-eq0.false, lt-leb kind 3 c.if-kind-le3.false)
+returns-else-kind-le3 c = rw (ne_eqb _ 0 c.if-kind-eq0.false, lt-leb _ 3 c.if-kind-le3.false)

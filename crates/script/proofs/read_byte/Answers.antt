@@ -3,7 +3,6 @@ use Rattle.std.proofs.Common.{eq-eqb, ne_eqb}
 use Rattle.script.specs.Feeding.{step_of}
 use Rattle.script.proofs.read_byte.Goals as goal
 
--- A byte is one of kind where no body is awaited, else one of the body, and the last of a body ends its record.
 pub returns-then-script-eq0 : goal.returns-then-script-eq0
 unfolding step_of
 returns-then-script-eq0 c = rw (c.begin_record.ensures, eq-eqb _ 0 c.if-script-eq0.true)
