@@ -216,17 +216,17 @@ mod tests {
 
     #[test]
     fn tells_the_largest(rt: HostRuntime) {
-        let some = Totals {
-            largest: 19,
+        let row = BusRow {
+            burst: 0x0104,
+            words: 19,
             screen: 3,
             row: 7,
-            any: true,
-            ..none()
         };
-        let marked_none = Totals { any: false, ..some };
+        let one = report_by_value(none(), row).totals;
+        let marked_none = Totals { any: false, ..one };
         for (totals, want) in [
             (none(), (0, 0, 0)),
-            (some, (19, 3, 7)),
+            (one, (19, 3, 7)),
             (marked_none, (0, 0, 0)),
         ] {
             let told = largest_told(totals);
