@@ -113,14 +113,14 @@ module _ (t : Totals) (hs : List BusRow) where
 -- ---- the largest ----
 -- what the totals u tell after rows hs that are counted from totals t with a row: the same row as before, or the first of the largest
 data Passed (t u : Totals) (hs : List BusRow) : Type 0 where
-  stands : AtMost t.largest hs → u.largest ≡ t.largest → u.screen ≡ t.screen → u.row ≡ t.row → Passed t u hs
+  stands : AtMost t.largest hs → u.largest ≡ t.largest → u.screen ≡ t.screen → u.row ≡ t.row → u.any ≡ true → Passed t u hs
   passed : {r : BusRow} → t.largest < r.words → FirstLargest r hs → Tells u r → Passed t u hs
 
 -- a row that takes the largest's place, and one that does not
 module _ (t : Totals) (h : BusRow) where
   takes : larger t h ≡ true → Tells (added t h) h
   unfolding added
-  takes e = record { words = rw e; screen = rw e; row = rw e }
+  takes e = record { words = rw e; screen = rw e; row = rw e; any = refl }
 
   leaves : larger t h ≡ false → ((added t h).largest ≡ t.largest) × ((added t h).screen ≡ t.screen) × ((added t h).row ≡ t.row)
   unfolding added
@@ -137,13 +137,13 @@ at_most {hs} e a = subst (λ (n : ℕ). AtMost n hs) e a
 
 -- one more row in front, from totals with a row
 more-words : (t : Totals) (h : BusRow) {u : Totals} {hs : List BusRow} → t.largest < h.words → Tells (added t h) h → Passed (added t h) u hs → Passed t u (h ∷ hs)
-more-words t h l e (stands a w s r) =
-    passed l (here (at_most e.words a)) (record { words = w ∙ e.words; screen = s ∙ e.screen; row = r ∙ e.row })
+more-words t h l e (stands a w s r y) =
+    passed l (here (at_most e.words a)) (record { words = w ∙ e.words; screen = s ∙ e.screen; row = r ∙ e.row; any = y })
 more-words t h l e (passed {r} k f i) = passed {r = r} (omega (arith, e.words)) (later {h = h} (omega (arith, e.words)) f) i
 
 no-more-words : (t : Totals) (h : BusRow) {u : Totals} {hs : List BusRow} → h.words ≤ t.largest
     → ((added t h).largest ≡ t.largest) × ((added t h).screen ≡ t.screen) × ((added t h).row ≡ t.row) → Passed (added t h) u hs → Passed t u (h ∷ hs)
-no-more-words t h l e (stands a w s r) = stands (more l (at_most e.0 a)) (w ∙ e.0) (s ∙ e.1) (r ∙ e.2)
+no-more-words t h l e (stands a w s r y) = stands (more l (at_most e.0 a)) (w ∙ e.0) (s ∙ e.1) (r ∙ e.2) y
 no-more-words t h l e (passed {r} k f i) = passed {r = r} (omega (arith, e.0)) (later {h = h} (omega (arith, e.0)) f) i
 
 still-any : (t : Totals) (h : BusRow) → (added t h).any ≡ true
@@ -152,7 +152,7 @@ still-any t h = refl
 
 passing : (t : Totals) (hs : List BusRow) → t.any ≡ true → Passed t (report t hs) (accepted t hs)
 unfolding report accepted
-passing t [] a = stands empty refl refl refl
+passing t [] a = stands empty refl refl refl a
 passing t (h ∷ hs) a = by-report (reports t h) (passing (reported t h).totals hs)
   where
     by-more : (b : Bool) → ltb t.largest h.words ≡ b → {u : Totals} {hs : List BusRow} → Passed (added t h) u hs → Passed t u (h ∷ hs)
@@ -166,13 +166,13 @@ passing t (h ∷ hs) a = by-report (reports t h) (passing (reported t h).totals 
 
 -- the first row in front
 first-row : (t : Totals) (h : BusRow) {u : Totals} {hs : List BusRow} → Tells (added t h) h → Passed (added t h) u hs → Largest u (h ∷ hs)
-first-row t h e (stands a w s r) =
-    of_row (here (at_most e.words a)) (record { words = w ∙ e.words; screen = s ∙ e.screen; row = r ∙ e.row })
+first-row t h e (stands a w s r y) =
+    of_row (here (at_most e.words a)) (record { words = w ∙ e.words; screen = s ∙ e.screen; row = r ∙ e.row; any = y })
 first-row t h e (passed {r} k f i) = of_row {r = r} (later {h = h} (omega (arith, e.words)) f) i
 
 none_told : Largest none []
 unfolding none
-none_told = no_row refl refl refl
+none_told = no_row refl refl refl refl
 
 none_any : none.any ≡ false
 unfolding none

@@ -1,9 +1,10 @@
 -- Document 02 §10, "How much of the bus a screen takes": what a row takes, and the running totals.
-use Rattle.std.specs.Prelude.{ℕ, ◌+◌, ◌-◌, ◌*◌, ◌/◌, ◌^◌, Bool, true, false, ◌&&◌, ◌||◌, not, ltb, eqb, Ok, Err}
+use Rattle.std.specs.Prelude.{ℕ, ◌+◌, ◌-◌, ◌*◌, ◌/◌, ◌^◌, Bool, true, false, ◌&&◌, ◌||◌, not, ltb, eqb, Option, Some, None, unwrap_or, Ok, Err}
 use Rattle.memory.specs.Word.{when◌then◌else◌, high, low}
 use Rattle.memory.specs.declared.Refusal.{Refusal}
 use Rattle.bus.specs.declared.BusRow.{BusRow}
 use Rattle.bus.specs.declared.Figures.{Figures}
+use Rattle.bus.specs.declared.LargestRow.{LargestRow}
 use Rattle.bus.specs.declared.Totals.{Totals}
 use Rattle.bus.specs.declared.Reported.{Reported}
 
@@ -34,6 +35,14 @@ figures h = record { bursts = bursts h.burst h.words; released = released h.burs
 -- the totals before any row: "0 and 0 while none"
 unfoldable pub none : Totals
 none = record { words = 0; bursts = 0; released = 0; largest = 0; screen = 0; row = 0; any = false }
+
+-- the largest row, once a row was handed in
+abbrev pub largest_row : Totals → Option LargestRow
+largest_row t = when t.any then Some (record { words = t.largest; screen = t.screen; row = t.row }) else None
+
+-- the largest as it is told: "0 and 0 while none"
+abbrev pub told : Option LargestRow → LargestRow
+told largest = unwrap_or largest (record { words = 0; screen = 0; row = 0 })
 
 -- "of the largest word count, the first if several": a later row has to have more words
 abbrev pub larger : Totals → BusRow → Bool

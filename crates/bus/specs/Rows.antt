@@ -1,5 +1,5 @@
 -- Document 02 §10, "Over any number of screens": the report over the rows handed in, first to last.
-use Rattle.std.specs.Prelude.{ℕ, ◌+◌, ◌<◌, ◌≤◌, ◌≡◌, List, [], ◌∷◌, Result, Ok, Err}
+use Rattle.std.specs.Prelude.{ℕ, ◌+◌, ◌<◌, ◌≤◌, ◌≡◌, true, false, List, [], ◌∷◌, Result, Ok, Err}
 use Rattle.memory.specs.declared.Refusal.{Refusal}
 use Rattle.bus.specs.declared.BusRow.{BusRow}
 use Rattle.bus.specs.declared.Totals.{Totals}
@@ -49,10 +49,11 @@ pub record Tells (t : Totals) (r : BusRow) : Type 0 where
   pub words : t.largest ≡ r.words
   pub screen : t.screen ≡ r.screen
   pub row : t.row ≡ r.row
+  pub any : t.any ≡ true
 
 -- what the totals tell after rows: "the first if several, 0 and 0 while none"
 pub data Largest (t : Totals) : List BusRow → Type 0 where
-  no_row : t.largest ≡ 0 → t.screen ≡ 0 → t.row ≡ 0 → Largest t []
+  no_row : t.largest ≡ 0 → t.screen ≡ 0 → t.row ≡ 0 → t.any ≡ false → Largest t []
   of_row : {r : BusRow} {hs : List BusRow} → FirstLargest r hs → Tells t r → Largest t hs
 
 -- rows with a burst count

@@ -2,7 +2,7 @@
 // How much of the bus a screen takes: a row's bursts and its least released time, and the running totals of the rows handed in.
 ghost use Rattle.std.specs.Prelude.{◌≡◌, true, ◌+◌, ◌-◌, ◌*◌, ◌<◌, ◌≤◌};
 ghost use Rattle.memory.specs.Word.{when◌then◌else◌};
-ghost use Rattle.bus.specs.Bus.{burst_space, burst_count, bursts, figures, none, added, fits, all_fit, refuse, reported};
+ghost use Rattle.bus.specs.Bus.{burst_space, burst_count, bursts, figures, none, largest_row, told, added, fits, all_fit, refuse, reported};
 
 use memory::Refusal;
 
@@ -22,6 +22,14 @@ pub struct BusRow {
 pub struct Figures {
     pub bursts: u64,
     pub released: u64,
+}
+
+// The largest word count, with the screen and row as they were handed in.
+#[derive(Clone, Copy)]
+pub struct LargestRow {
+    pub words: u64,
+    pub screen: u64,
+    pub row: u64,
 }
 
 // The running totals: the sums over the rows, the largest word count with its screen and row, and whether a row was handed in.
@@ -96,6 +104,19 @@ pub fn none() -> Totals
         screen: 0,
         row: 0,
         any: false,
+    }
+}
+
+// The largest row as it is told: 0, 0 and 0 while there is none.
+#[tactic(auto, unfolding(crate::specs::Bus::none))]
+pub fn largest_told(totals: Totals) -> LargestRow
+    ensures { result ≡ told (largest_row totals) }
+{
+    let t = if totals.any { totals } else { none() };
+    LargestRow {
+        words: t.largest,
+        screen: t.screen,
+        row: t.row,
     }
 }
 
@@ -187,4 +208,29 @@ fn pick(test: bool, a: u64, b: u64) -> u64
     ensures { result ≡ (when test then a else b) }
 {
     if test { a } else { b }
+}
+
+#[cfg(test)]
+mod tests {
+    use super::*;
+
+    #[test]
+    fn tells_the_largest(rt: HostRuntime) {
+        let row = BusRow {
+            burst: 0x0104,
+            words: 19,
+            screen: 3,
+            row: 7,
+        };
+        let one = report_by_value(none(), row).totals;
+        let marked_none = Totals { any: false, ..one };
+        for (totals, want) in [
+            (none(), (0, 0, 0)),
+            (one, (19, 3, 7)),
+            (marked_none, (0, 0, 0)),
+        ] {
+            let told = largest_told(totals);
+            assert_eq!(rt; (told.words, told.screen, told.row), want);
+        }
+    }
 }

@@ -1,6 +1,6 @@
 -- The same of a bus report and of the calls on a row's text; and an example of each number.
 use mathlib.Core.Path.{◌≡◌, refl}
-use mathlib.Core.Bool.{true, false}
+use mathlib.Core.Bool.{Bool, true, false}
 use mathlib.Core.List.{List, [], ◌∷◌, ◌++◌}
 use Prim.Native.Nat.{ℕ, ◌-◌, ◌^◌}
 use native.Mathlib.Omega.{arith}
@@ -55,13 +55,14 @@ read-mail-told t buffer = by (read_row t)
 abbrev one_word : ℕ → BusRow
 one_word burst = record { burst = burst; words = 1; screen = 0; row = 0 }
 
--- burst count 0; a sum of words that needs 65 bits
-abbrev full : Totals
-full = record { words = 2 ^ 64 - 1; bursts = 0; released = 0; largest = 0; screen = 0; row = 0; any = true }
+-- burst count 0; a sum of words that needs 65 bits, whether a row was handed in or none
+abbrev full : Bool → Totals
+full any = record { words = 2 ^ 64 - 1; bursts = 0; released = 0; largest = 0; screen = 0; row = 0; any = any }
 
-pub reports : of_bus (reported none (one_word 0x100)).answer ++ of_bus (reported full (one_word 0x101)).answer ≡ bus_numbers
+pub reports : (any : Bool)
+    → of_bus (reported none (one_word 0x100)).answer ++ of_bus (reported (full any) (one_word 0x101)).answer ≡ bus_numbers
 unfolding reported added bursts released none
-reports = refl
+reports any = refl
 
 -- 131 cells; settings that are not good; no byte of room
 pub writes-text : (σ τ : Settings) → good σ ≡ true → good τ ≡ false
