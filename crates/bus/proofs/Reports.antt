@@ -135,11 +135,19 @@ module _ (t : Totals) (h : BusRow) where
 at_most : {m n : ℕ} {hs : List BusRow} → m ≡ n → AtMost m hs → AtMost n hs
 at_most {hs} e a = subst (λ (n : ℕ). AtMost n hs) e a
 
--- one more row in front, from totals with a row
-more-words : (t : Totals) (h : BusRow) {u : Totals} {hs : List BusRow} → t.largest < h.words → Tells (added t h) h → Passed (added t h) u hs → Passed t u (h ∷ hs)
-more-words t h l e (stands a w s r y) =
-    passed l (here (at_most e.words a)) (record { words = w ∙ e.words; screen = s ∙ e.screen; row = r ∙ e.row; any = y })
-more-words t h l e (passed {r} k f i) = passed {r = r} (omega (arith, e.words)) (later {h = h} (omega (arith, e.words)) f) i
+-- a row in front that takes the place
+first-row : (t : Totals) (h : BusRow) {u : Totals} {hs : List BusRow} → Tells (added t h) h → Passed (added t h) u hs → Largest u (h ∷ hs)
+first-row t h e (stands a w s r y) =
+    of_row (here (at_most e.words a)) (record { words = w ∙ e.words; screen = s ∙ e.screen; row = r ∙ e.row; any = y })
+first-row t h e (passed {r} k f i) = of_row {r = r} (later {h = h} (omega (arith, e.words)) f) i
+
+no-fewer : {r h : BusRow} {hs : List BusRow} → FirstLargest r (h ∷ hs) → h.words ≤ r.words
+no-fewer (here a) = omega arith
+no-fewer (later l f) = omega arith
+
+-- one in front of rows that are counted from totals with a row
+more-words : (t : Totals) (h : BusRow) {u : Totals} {hs : List BusRow} → t.largest < h.words → Largest u (h ∷ hs) → Passed t u (h ∷ hs)
+more-words t h l (of_row {r} f i) = passed {r = r} (omega (arith, no-fewer f)) f i
 
 no-more-words : (t : Totals) (h : BusRow) {u : Totals} {hs : List BusRow} → h.words ≤ t.largest
     → ((added t h).largest ≡ t.largest) × ((added t h).screen ≡ t.screen) × ((added t h).row ≡ t.row) → Passed (added t h) u hs → Passed t u (h ∷ hs)
@@ -156,19 +164,13 @@ passing t [] a = stands empty refl refl refl a
 passing t (h ∷ hs) a = by-report (reports t h) (passing (reported t h).totals hs)
   where
     by-more : (b : Bool) → ltb t.largest h.words ≡ b → {u : Totals} {hs : List BusRow} → Passed (added t h) u hs → Passed t u (h ∷ hs)
-    by-more true e = more-words t h (ltb-true _ _ e) (takes t h (then-more t h a ∙ e))
-    by-more false e = no-more-words t h (ltb-false _ _ e) (leaves t h (then-more t h a ∙ e))
+    by-more true e p = more-words t h (ltb-true _ _ e) (first-row t h (takes t h (then-more t h a ∙ e)) p)
+    by-more false e p = no-more-words t h (ltb-false _ _ e) (leaves t h (then-more t h a ∙ e)) p
 
     by-report : {r : Reported} → Reports t h r → (r.totals.any ≡ true → Passed r.totals (report r.totals hs) (accepted r.totals hs))
         → Passed t (report r.totals hs) (counted r.answer h (accepted r.totals hs))
     by-report counts i = by-more (ltb t.largest h.words) refl (i (still-any t h))
     by-report (refuses n) i = i a
-
--- the first row in front
-first-row : (t : Totals) (h : BusRow) {u : Totals} {hs : List BusRow} → Tells (added t h) h → Passed (added t h) u hs → Largest u (h ∷ hs)
-first-row t h e (stands a w s r y) =
-    of_row (here (at_most e.words a)) (record { words = w ∙ e.words; screen = s ∙ e.screen; row = r ∙ e.row; any = y })
-first-row t h e (passed {r} k f i) = of_row {r = r} (later {h = h} (omega (arith, e.words)) f) i
 
 none_told : Largest none []
 unfolding none

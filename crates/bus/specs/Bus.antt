@@ -36,6 +36,10 @@ figures h = record { bursts = bursts h.burst h.words; released = released h.burs
 unfoldable pub none : Totals
 none = record { words = 0; bursts = 0; released = 0; largest = 0; screen = 0; row = 0; any = false }
 
+-- "of the largest word count, the first if several": a later row has to have more words
+abbrev pub larger : Totals → BusRow → Bool
+larger t h = not t.any || ltb t.largest h.words
+
 -- the largest row, once a row was handed in
 abbrev pub largest_row : Totals → Option LargestRow
 largest_row t = when t.any then Some (record { words = t.largest; screen = t.screen; row = t.row }) else None
@@ -43,10 +47,6 @@ largest_row t = when t.any then Some (record { words = t.largest; screen = t.scr
 -- the largest as it is told: "0 and 0 while none"
 abbrev pub told : Option LargestRow → LargestRow
 told largest = unwrap_or largest (record { words = 0; screen = 0; row = 0 })
-
--- "of the largest word count, the first if several": a later row has to have more words
-abbrev pub larger : Totals → BusRow → Bool
-larger t h = not t.any || ltb t.largest h.words
 
 -- "per row and summed, with screen and row, as handed in, of the largest word count"
 unfoldable pub added : Totals → BusRow → Totals
